@@ -1,0 +1,5 @@
+pub mod Ledger
+pub mod Refusals
+pub mod Faults
+pub mod Movement
+pub mod Laws
