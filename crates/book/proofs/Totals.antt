@@ -1,8 +1,8 @@
 -- What movements do to the sums of assets, and that they keep a book sound.
 use mathlib.Core.Path.{_≡_, refl, sym, _∙_, ap, subst}
-use mathlib.Core.Bool.{Bool, true, false, cond}
+use mathlib.Core.Bool.{true, cond}
 use mathlib.Core.Logic.{⊎-elim}
-use mathlib.Core.List.{List, [], _∷_}
+use mathlib.Core.List.{[], _∷_}
 use Prim.Native.Nat.{ℕ, _+_, _-_, _<_, _≤_}
 use native.Mathlib.Omega.{arith}
 use lib.Dec.{eqb}
@@ -10,7 +10,7 @@ use Rattle.std.proofs.shelf.Tests.{cases-eq, eq-eqb, ne-eqb}
 use Rattle.std.proofs.shelf.Ways.{tells}
 use Rattle.book.specs.Ledger.{Ledger, Balances, Sound, sumTo, total, with-held, most-amount}
 use Rattle.book.specs.Movement.{Movement, Put, Pull, Move, movement-number, after, Carried}
-use Rattle.book.specs.Laws.{Asked, put-in, taken-out, all-accepted, Ran, Totals-follow, Totals-within}
+use Rattle.book.specs.Laws.{put-in, taken-out, Totals-follow, Totals-within}
 use Rattle.book.proofs.Sums.{total-with, total-with-other, outside-accounts, outside-assets}
 use Rattle.book.proofs.Accepted.{put-accepted, pull-accepted, move-accepted}
 

@@ -35,10 +35,10 @@ abbrev pub number-of : List (Refusal BookFault) → ℕ
 number-of rs = first fault-number 0 rs
 
 -- A number from 1 to the most.
-abbrev pub from-one : ℕ → ℕ → Bool
-from-one most n = ltb 0 n && leb n most
+abbrev pub from-one-to : ℕ → ℕ → Bool
+from-one-to most n = ltb 0 n && leb n most
 
 -- The answer to the counts of a book.
 abbrev pub counts-number : ℕ → ℕ → ℕ
 counts-number accounts assets =
-    number-of (BadCounts when not (from-one most-accounts accounts && from-one most-assets assets) ∷ [])
+    number-of (BadCounts when not (from-one-to most-accounts accounts && from-one-to most-assets assets) ∷ [])

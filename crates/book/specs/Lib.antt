@@ -2,4 +2,5 @@ pub mod Ledger
 pub mod Refusals
 pub mod Faults
 pub mod Movement
+pub mod Posting
 pub mod Laws

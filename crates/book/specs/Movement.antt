@@ -1,12 +1,12 @@
 -- The movements of a book: when each is refused, and what it leaves.
 use mathlib.Core.Path.{_≡_}
-use mathlib.Core.Bool.{Bool, cond, _&&_, _||_, not}
+use mathlib.Core.Bool.{Bool, cond, _||_, not}
 use mathlib.Core.List.{List, [], _∷_}
 use Prim.Native.Nat.{ℕ, _+_, _-_, _≤_}
 use lib.Dec.{ltb, leb, eqb}
 use Rattle.book.specs.Ledger.{Ledger, Balances, total, with-held, most-amount}
 use Rattle.book.specs.Refusals.{Refusal, _when_}
-use Rattle.book.specs.Faults.{number-of, from-one}
+use Rattle.book.specs.Faults.{number-of, from-one-to}
 use Rattle.book.specs.declared.fault.BookFault.{BookFault}
 use Rattle.book.specs.declared.fault.BookFault.the-variants.{NoAccount, NoAsset, BadAmount, NoSpace, TooLittle, TooMuch}
 
@@ -25,7 +25,7 @@ no-asset b s = leb (b .assets) s
 
 -- An amount is from 1 to 10^15.
 abbrev pub good-amount : ℕ → Bool
-good-amount n = from-one most-amount n
+good-amount n = from-one-to most-amount n
 
 abbrev pub full : Ledger → Bool
 full b = eqb (b .space) 0

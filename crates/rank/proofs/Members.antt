@@ -1,6 +1,6 @@
 -- What stands in a list.
 use mathlib.Core.Path.{refl, sym, subst}
-use mathlib.Core.Logic.{_⊎_, inl, inr, ⊎-elim}
+use mathlib.Core.Logic.{inl, inr, ⊎-elim}
 use mathlib.Core.List.{List, [], _∷_}
 use native.Mathlib.Omega.{arith}
 use Rattle.std.specs.shelf.Lists.{All, Has}

@@ -1,0 +1,11 @@
+pub mod Limits
+pub mod Faults
+pub mod State
+pub mod Charges
+pub mod Run
+pub mod Day
+pub mod Events
+pub mod Questions
+pub mod Life
+pub mod Fit
+pub mod Examples
