@@ -1,0 +1,5 @@
+pub mod entries;
+pub mod entry;
+pub mod fault;
+pub mod feed;
+mod reader;

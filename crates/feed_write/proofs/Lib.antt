@@ -1,0 +1,6 @@
+mod Stands
+mod Back
+mod Overs
+mod Sizes
+mod Ends
+mod Feeds

@@ -1,0 +1,6 @@
+pub mod fault;
+pub mod law;
+mod parts;
+#[cfg(test)]
+mod tests;
+pub mod write;

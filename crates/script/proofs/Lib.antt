@@ -1,0 +1,4 @@
+mod Cuts
+mod Fills
+pub mod Keeps
+mod Values
