@@ -1,3 +1,7 @@
 pub mod Limits
 pub mod Lines
 pub mod Netting
+pub mod Sides
+pub mod Dropping
+pub mod Asking
+pub mod Fits

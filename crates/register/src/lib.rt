@@ -1,5 +1,11 @@
-// The register of lines, and how a trade is netted into it.
+// The register of lines: a line found by its key, trades netted, lines listed by rising key, finished lines dropped.
+mod asking;
+mod dropping;
 pub mod line;
+mod netting;
+mod places;
+#[cfg(test)]
+mod tests;
 pub mod trade;
 
 use line::Line;

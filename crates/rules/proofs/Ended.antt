@@ -28,7 +28,8 @@ use Rattle.rules.specs.State.{State, pool, cash, no-member, member, position, 
 use Rattle.register.specs.Lines.{no-line, line, key, delivers, receives, in-group, due-by, sumZ, sumZ-if}
 use Rattle.register.specs.Netting.{due-day}
 use Rattle.rules.specs.Run.{Act, close-line, compensate, require, noted, after-act, performed, places-if, all-members, required, line-closed, line-served, compensation-due}
-use Rattle.rules.specs.Day.{traded-today, closings, requirements, finished, lines-if, dropped, next-morning, closed-day, ended-day, compensation, cash-settlements}
+use Rattle.rules.specs.Day.{traded-today, closings, requirements, finished, dropped, next-morning, closed-day, ended-day, compensation, cash-settlements}
+use Rattle.register.specs.Dropping.{lines-if}
 use Rattle.rules.specs.Events.{is-morning, is-shut}
 use Rattle.rules.specs.Fit.{Shape, Known}
 use Rattle.rules.proofs.Written.{getD-with}

@@ -26,7 +26,8 @@ use Rattle.register.specs.Netting.{due-day}
 use Rattle.rules.specs.State.{State, member, position, in-escrow, close, today, with-register, put-line}
 use Rattle.register.specs.Lines.{no-line, line, of-member, rest-of, sum-if, with-line}
 use Rattle.rules.specs.Run.{close-line, require, after-act, performed, places-if, line-closed, all-members}
-use Rattle.rules.specs.Day.{traded-today, lines-if, register-of, finished, dropped, next-morning, cleared-day, ended-day}
+use Rattle.rules.specs.Day.{traded-today, finished, dropped, next-morning, cleared-day, ended-day}
+use Rattle.register.specs.Dropping.{lines-if, register-of}
 use Rattle.rules.specs.Events.{unpriced}
 use Rattle.rules.specs.Fit.{Shape, Line-fits, Bounds, weight, most-difference, most-weight, most-due, due-of}
 use Rattle.rules.proofs.Written.{line-with}

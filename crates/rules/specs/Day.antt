@@ -1,17 +1,15 @@
 -- The end of a day, and cash settlement.
-use mathlib.Core.List.{List, [], _∷_, _++_, map}
-use mathlib.Core.Bool.{Bool, cond, not, _&&_}
-use Prim.Native.Nat.{ℕ, zero, suc, _+_, _-_, _/_}
+use mathlib.Core.List.{List, map}
+use mathlib.Core.Bool.{Bool}
+use Prim.Native.Nat.{ℕ, suc, _+_, _/_}
 use lib.Dec.{eqb}
-use lib.ListN.{length, replicate}
 use Rattle.register.specs.declared.line.Line.{Line}
 use Rattle.rules.specs.declared.figures.Phase.the-variants.{Morning}
-use Rattle.register.specs.declared.Register.{Register}
 use Rattle.rules.specs.declared.figures.Figures.{Figures}
-use Rattle.register.specs.Limits.{register-places}
 use Rattle.rules.specs.State.{State, today, with-clock, with-register, with-figures}
-use Rattle.register.specs.Lines.{no-line, line, due-by, in-group}
+use Rattle.register.specs.Lines.{in-group}
 use Rattle.register.specs.Netting.{due-day}
+use Rattle.register.specs.Dropping.{finished-by, without-finished}
 use Rattle.rules.specs.Run.{Act, close-line, require, compensate, performed, places-if, all-members}
 
 -- Lines traded today.
@@ -26,20 +24,11 @@ requirements s = map require (all-members s)
 
 -- A line due by today that has no rest.
 abbrev pub finished : Figures → Line → Bool
-finished f l = due-by (today f) l && eqb (l .rest) 0
-
--- The first n lines that pass a test, in their order.
-abbrev pub lines-if : (Line → Bool) → Register → ℕ → List Line
-lines-if p g zero = []
-lines-if p g (suc n) = lines-if p g n ++ cond (p (line g n)) (line g n ∷ []) []
-
--- A register of these lines; the places behind them are empty.
-abbrev pub register-of : List Line → Register
-register-of ls = record { count = length ls; lines = ls ++ replicate (register-places - length ls) no-line }
+finished f l = finished-by (today f) l
 
 -- Finished lines make place.
 abbrev pub dropped : Figures → Figures
-dropped f = with-register f (register-of (lines-if (λ l. not (finished f l)) (f .register) (f .register .count)))
+dropped f = with-register f (without-finished (today f) (f .register))
 
 abbrev pub next-morning : Figures → Figures
 next-morning f = with-clock f (record { day = suc (today f); phase = Morning })

@@ -4,6 +4,8 @@ use mathlib.Core.List.{List, [], _∷_, _++_, map}
 use mathlib.Core.Bool.{false}
 use Prim.Native.Nat.{ℕ}
 use lib.IntN.{ℤ, pos, negℤ}
+use Rattle.rank.specs.declared.key.Flag.the-variants.{LocalClient}
+use Rattle.rank.specs.Keys.{key-number}
 use Rattle.rank.specs.Ranks.{annex-goes}
 use Rattle.register.specs.Lines.{line}
 use Rattle.rules.specs.declared.event.Event.{Event}
@@ -121,6 +123,8 @@ pub record Worked-examples : Type 0 where
   pub means-to-pay : map (λ a. share-served .held a cash) (settlement 2 ∷ collateral 2 ∷ contribution 2 ∷ reserve ∷ []) ≡ (200 ∷ 100 ∷ 50 ∷ 1000 ∷ [])
   pub reserve-advances : member (reserve-drawn .figures) 2 .advances ≡ 150
   pub share-in-escrow : in-escrow (reserve-drawn .figures) 2 1 ≡ 1
+  -- Due day 4, security 1, member 2, LC.
+  pub key-of-a-line : key-number (record { due = 4; security = 1; member = 2; flag = LocalClient }) ≡ 65801
   pub compensations : (compensation 1001 ≡ 1102) × (compensation 1000 ≡ 1100)
   pub too-early : cash-answer day-six ≡ refused house-layer 16
   pub in-time : cash-answer day-seven ≡ accepted

@@ -17,6 +17,7 @@ returns c = record {
   means-to-pay = refl;
   reserve-advances = refl;
   share-in-escrow = refl;
+  key-of-a-line = refl;
   compensations = (refl, refl);
   too-early = refl;
   in-time = refl;

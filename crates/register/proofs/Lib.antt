@@ -1,0 +1,3 @@
+pub mod KeyPlaces
+pub mod Trades
+pub mod Packing
