@@ -186,7 +186,7 @@ mod tests {
         check_eq(t.balance(0, 1), Ok(40))?;
         check_eq(t.balance(1, 1), Ok(20))?;
         check_eq(t.balance(1, 0), Ok(0))?;
-        check_eq(t.space(), 4_294_967_295)
+        check_eq(t.space(), u32::MAX)
     }
 
     #[test]
