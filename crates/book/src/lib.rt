@@ -1,4 +1,6 @@
 // What a book is: the trait, its refusals, its counts, and the movements made through any book.
+#![tactic(auto)]
+
 ghost use Rattle.std.specs.Prelude.{◌≡◌};
 ghost use Rattle.book.specs.Ledger.{Ledger, Sound, Told};
 ghost use Rattle.book.specs.Movement.{Put, Pull, Move, Carried, balance_number};

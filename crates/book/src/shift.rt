@@ -6,7 +6,7 @@ use crate::Book;
 
 // What an account holds: 0 where there is no such account or asset.
 pub fn holds<B: Book>(book: &B, account: u8, asset: u8) -> u64
-    ensures { good book.now → result ≡ (ledger book.now).held account asset }
+    ensures { B.good book.now → result ≡ (B.ledger book.now).held account asset }
 {
     match book.balance(account, asset) {
         Ok(held) => held,
@@ -16,8 +16,8 @@ pub fn holds<B: Book>(book: &B, account: u8, asset: u8) -> u64
 
 // Moves an amount where the book takes it. A movement of 0 is not made.
 pub fn shift<B: Book>(book: &mut B, from: u8, to: u8, asset: u8, amount: u64)
-    ensures moved { good book.old → Shifted (Move from to asset amount) (ledger book.old) (ledger book.new) }
-    ensures stays { good book.old → good book.new }
+    ensures moved { B.good book.old → Shifted (Move from to asset amount) (B.ledger book.old) (B.ledger book.new) }
+    ensures stays { B.good book.old → B.good book.new }
 {
     if amount > 0 {
         let _ = book.transfer(from, to, asset, amount);
@@ -26,9 +26,9 @@ pub fn shift<B: Book>(book: &mut B, from: u8, to: u8, asset: u8, amount: u64)
 
 // Moves the smaller of what is wanted and what is held, and answers how much that is.
 pub fn shift_up_to<B: Book>(book: &mut B, from: u8, to: u8, asset: u8, wanted: u64) -> u64
-    ensures amount { good book.old → result ≡ min wanted ((ledger book.old).held from asset) }
-    ensures moved { good book.old → Shifted (Move from to asset result) (ledger book.old) (ledger book.new) }
-    ensures stays { good book.old → good book.new }
+    ensures amount { B.good book.old → result ≡ min wanted ((B.ledger book.old).held from asset) }
+    ensures moved { B.good book.old → Shifted (Move from to asset result) (B.ledger book.old) (B.ledger book.new) }
+    ensures stays { B.good book.old → B.good book.new }
 {
     let amount = holds(book, from, asset).min(wanted);
     shift(book, from, to, asset, amount);

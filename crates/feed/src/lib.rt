@@ -1,3 +1,5 @@
+#![tactic(auto)]
+
 pub mod entries;
 pub mod entry;
 pub mod fault;

@@ -1,3 +1,5 @@
+#![tactic(auto)]
+
 use anyhow::anyhow;
 use feed::entry::Entry;
 use feed::fault::FeedFault;

@@ -1,3 +1,5 @@
+#![tactic(auto)]
+
 ghost use Rattle.std.specs.Prelude.{◌≡◌, ◌<◌};
 ghost use Rattle.feed.specs.Format.{verdict};
 ghost use Rattle.feed_cases.specs.Codes.{code};

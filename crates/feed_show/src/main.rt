@@ -1,3 +1,5 @@
+#![tactic(auto)]
+
 use feed::entry::Entry;
 use feed::feed::{CheckedFeed, RawFeed};
 use rank::key::Flag;

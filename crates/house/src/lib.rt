@@ -1,4 +1,6 @@
 // The house: figures over any book and any rank, its opening, its events and its questions.
+#![tactic(auto)]
+
 mod asking;
 mod events;
 pub mod house;

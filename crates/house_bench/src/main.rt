@@ -1,5 +1,7 @@
 // Times bring, pledge and novate in a house whose register has 10, 100 and 500 lines.
 // The times go to standard error; standard output is the same in every run.
+#![tactic(auto)]
+
 use anyhow::anyhow;
 use book::counts::Counts;
 use house::house::House;

@@ -1,4 +1,6 @@
 // A house over a table, as its caller sees it.
+#![tactic(auto)]
+
 #[cfg(test)]
 mod full;
 #[cfg(test)]

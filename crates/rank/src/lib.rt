@@ -1,4 +1,6 @@
 // Ranks: which line is served first.
+#![tactic(auto)]
+
 ghost use Rattle.std.specs.Prelude.{◌≡◌, ℕ, Bool};
 ghost use Rattle.rank.specs.declared.claim.Claim.{Claim};
 ghost use Rattle.rank.specs.Laws.{Lawful};

@@ -1,4 +1,6 @@
 // The answers to questions, from figures and a book.
+#![tactic(auto)]
+
 ghost use Rattle.std.specs.Prelude.{◌≡◌, None};
 ghost use Rattle.register.specs.Asking.{line_asked};
 ghost use Rattle.register.specs.Netting.{flag_of};

@@ -1,4 +1,6 @@
 // The register of lines: a line found by its key, trades netted, lines listed by rising key, finished lines dropped.
+#![tactic(auto)]
+
 mod asking;
 mod dropping;
 pub mod line;

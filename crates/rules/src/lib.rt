@@ -1,4 +1,6 @@
 // The rules of settlement: the figures of a house, its events and refusals, and the definitions and laws of both.
+#![tactic(auto)]
+
 ghost use Rattle.rules.specs.Examples.{WorkedExamples};
 ghost use Rattle.rules.specs.Fit.{BoundsKept};
 ghost use Rattle.rules.specs.Life.{SettlementLaws};

@@ -1,28 +1,20 @@
 -- What a line says.
-use Rattle.std.specs.Prelude.{ℕ, ◌+◌, ◌-◌, ◌^◌, Bool, cond, List, [], ◌∷◌, length, replicate, Some, None, Ok, Err, Option, Result, ◌==◌, nat_le, slice_index, slice_set}
+use Rattle.std.specs.Prelude.{ℕ, ◌+◌, ◌-◌, ◌^◌, Bool, cond, List, [], ◌∷◌, length, replicate, Some, None, Ok, Err, codes, Option, Result, ◌==◌, nat_le, slice_index, slice_set}
 use Rattle.std.specs.Str.{bytes_eq}
-use Rattle.rank.specs.declared.key.Flag.{Flag}
-use Rattle.rank.specs.Keys.{flag_number}
-use Rattle.register.specs.declared.trade.Trade.{Trade}
 use Rattle.script.specs.declared.command.Command.{Command}
-use Rattle.script.specs.declared.command.Command.TheVariants.{Table, OnBook, Open, Close, OnHouse, Show}
+use Rattle.script.specs.declared.command.Command.TheVariants.{Table, OnBook}
 use Rattle.script.specs.declared.command.BookCommand.{BookCommand}
 use Rattle.script.specs.declared.command.BookCommand.TheVariants.{Put, Pull, Move, Balance, Balances}
-use Rattle.script.specs.declared.command.RankChoice.TheVariants.{Annex, Former}
-use Rattle.script.specs.declared.command.HouseCommand.{HouseCommand}
-use Rattle.script.specs.declared.command.HouseCommand.TheVariants.{Bring, Take, Endow, Pledge, Refund, Contribute, Novate, Price}
 use Rattle.script.specs.declared.form.Field.{Field}
 use Rattle.script.specs.declared.form.Field.TheVariants as field
 use Rattle.script.specs.declared.form.Verb.{Verb}
 use Rattle.script.specs.declared.form.Verb.TheVariants as verb
 use Rattle.script.specs.declared.form.BookVerb.{BookVerb}
 use Rattle.script.specs.declared.form.BookVerb.TheVariants as book
-use Rattle.script.specs.declared.form.HouseVerb.{HouseVerb}
-use Rattle.script.specs.declared.form.HouseVerb.TheVariants as house
 use Rattle.script.specs.declared.misread.Misread.{Misread}
 use Rattle.script.specs.declared.misread.Misread.TheVariants.{Long, Unknown, Count}
 use Rattle.script.specs.declared.row.Row.{Row}
-use Rattle.script.specs.Forms.{keyword_name, flag_of, verb_of, form_of}
+use Rattle.script.specs.Forms.{verb_of, form_of}
 use Rattle.script.specs.Numeral.{numeral}
 use Rattle.script.specs.Splitting.{words_of}
 
@@ -38,43 +30,27 @@ abbrev pub then : {X Y : Type 0} → Result X Misread → (X → Result Y Misrea
 then (Ok x) f = f x
 then (Err e) f = Err e
 
--- The numbers of a command stand at the places of their words, those of 8, of 32 and of 64 bits apart.
+-- The numbers of a command stand at the places of their words, those of 8 bits and those of 64 bits apart.
 abbrev pub empty : Row
-empty = record { bytes = replicate most_fields 0; numbers = replicate most_fields 0; amounts = replicate most_fields 0 }
+empty = record { bytes = replicate most_fields 0; amounts = replicate most_fields 0 }
 
 abbrev pub byte : Row → ℕ → ℕ
 byte r place = slice_index r.bytes place
-
-abbrev pub number : Row → ℕ → ℕ
-number r place = slice_index r.numbers place
 
 abbrev pub amount : Row → ℕ → ℕ
 amount r place = slice_index r.amounts place
 
 abbrev pub with_byte : Row → ℕ → ℕ → Row
-with_byte r place n = record { bytes = slice_set r.bytes place n; numbers = r.numbers; amounts = r.amounts }
-
-abbrev pub with_number : Row → ℕ → ℕ → Row
-with_number r place n = record { bytes = r.bytes; numbers = slice_set r.numbers place n; amounts = r.amounts }
+with_byte r place n = record { bytes = slice_set r.bytes place n; amounts = r.amounts }
 
 abbrev pub with_amount : Row → ℕ → ℕ → Row
-with_amount r place n = record { bytes = r.bytes; numbers = r.numbers; amounts = slice_set r.amounts place n }
-
--- A flag is written by its name or by any number of 8 bits.
-abbrev pub numbered : Option Flag → List ℕ → Result ℕ Misread
-numbered (Some f) w = Ok (flag_number f)
-numbered None w = numeral (2 ^ 8 - 1) w
-
-abbrev pub flag_numeral : List ℕ → Result ℕ Misread
-flag_numeral w = numbered (flag_of w) w
+with_amount r place n = record { bytes = r.bytes; amounts = slice_set r.amounts place n }
 
 -- The row with what the word w says at its place.
 abbrev pub read_field : Field → List ℕ → ℕ → Row → Result Row Misread
 read_field field.Byte w place r = then (numeral (2 ^ 8 - 1) w) (λ n. Ok (with_byte r place n))
-read_field field.Flag w place r = then (flag_numeral w) (λ n. Ok (with_byte r place n))
-read_field field.Number w place r = then (numeral (2 ^ 32 - 1) w) (λ n. Ok (with_number r place n))
 read_field field.Amount w place r = then (numeral (2 ^ 64 - 1) w) (λ n. Ok (with_amount r place n))
-read_field (field.Fixed k) w place r = cond (bytes_eq w (keyword_name k)) (Ok r) (Err Unknown)
+read_field field.Table w place r = cond (bytes_eq w (codes "table")) (Ok r) (Err Unknown)
 
 -- Each word is read by its field, from the first on. There must be as many words as fields.
 abbrev pub filled : List Field → List (List ℕ) → ℕ → Row → Result Row Misread
@@ -91,36 +67,9 @@ book_command_of book.Move r = Move (byte r 0) (byte r 1) (byte r 2) (amount r 3)
 book_command_of book.Balance r = Balance (byte r 0) (byte r 1)
 book_command_of book.Balances r = Balances
 
-abbrev pub trade_of : Row → Trade
-trade_of r =
-    record {
-      buyer = byte r 0;
-      buyer_flag = byte r 1;
-      seller = byte r 2;
-      seller_flag = byte r 3;
-      security = byte r 4;
-      quantity = number r 5;
-      price = number r 6;
-    }
-
-abbrev pub house_command_of : HouseVerb → Row → HouseCommand
-house_command_of house.Bring r = Bring (byte r 0) (byte r 1) (amount r 2)
-house_command_of house.Take r = Take (byte r 0) (byte r 1) (amount r 2)
-house_command_of house.Endow r = Endow (amount r 0)
-house_command_of house.Pledge r = Pledge (byte r 0) (amount r 1)
-house_command_of house.Refund r = Refund (byte r 0) (amount r 1)
-house_command_of house.Contribute r = Contribute (byte r 0) (amount r 1)
-house_command_of house.Novate r = Novate (trade_of r)
-house_command_of house.Price r = Price (byte r 0) (number r 1)
-
 abbrev pub command_of : Verb → Row → Command
 command_of verb.Book r = Table (byte r 1) (byte r 2)
 command_of (verb.OnBook v) r = OnBook (book_command_of v r)
-command_of verb.OpenAnnex r = Open (byte r 0) (byte r 1) (Annex (number r 3))
-command_of verb.OpenFormer r = Open (byte r 0) (byte r 1) Former
-command_of verb.Close r = Close
-command_of (verb.OnHouse v) r = OnHouse (house_command_of v r)
-command_of verb.Show r = Show
 
 -- What a verb says with the words after it.
 abbrev pub told : Option Verb → List (List ℕ) → Result (Option Command) Misread
@@ -133,7 +82,7 @@ comment w = slice_index w 0 == 35
 
 abbrev pub spoken : List (List ℕ) → Result (Option Command) Misread
 spoken [] = Ok None
-spoken (w ∷ ws) = cond (comment w) (Ok None) (told (verb_of w ws) ws)
+spoken (w ∷ ws) = cond (comment w) (Ok None) (told (verb_of w) ws)
 
 -- A line says a command, or nothing, or it has a first thing wrong with it.
 abbrev pub meaning : List ℕ → Result (Option Command) Misread

@@ -1,4 +1,6 @@
 // The script that the program `settle` reads: a line's bytes to a command, to nothing, or to what is wrong with it.
+#![tactic(auto)]
+
 pub mod command;
 mod form;
 pub mod line;

@@ -25,7 +25,7 @@ pub fn read(line: &[u8]) -> Result<Option<Command>, Misread>
     if first.starts_with(b"#") {
         return Ok(None);
     }
-    let Some(verb) = find_verb(first, &words) else {
+    let Some(verb) = find_verb(first) else {
         return Err(Misread::Unknown);
     };
     let row = Row::read(fields(verb), &mut words)?;

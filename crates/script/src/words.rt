@@ -1,5 +1,5 @@
 // The words of a line.
-ghost use Rattle.std.specs.Prelude.{◌≡◌, [], ◌∷◌, MatchOption, slice_index_or};
+ghost use Rattle.std.specs.Prelude.{◌≡◌, [], ◌∷◌, MatchOption};
 ghost use Rattle.std.specs.List.{prefix_len};
 ghost use Rattle.script.specs.Splitting.{white, dark, words_of};
 
@@ -57,15 +57,5 @@ impl<'a> Words<'a> {
             return None;
         }
         Some(word)
-    }
-
-    // The third of the words to come, or none where there are fewer.
-    pub(crate) fn third(&self) -> Option<&'a [u8]>
-        ensures { MatchOption result (slice_index_or (words_of self.now.rest.now) 2 [] ≡ []) (λ w. slice_index_or (words_of self.now.rest.now) 2 [] ≡ w.now) }
-    {
-        let mut ahead = Words { rest: self.rest };
-        ahead.next()?;
-        ahead.next()?;
-        ahead.next()
     }
 }

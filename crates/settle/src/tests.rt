@@ -1,21 +1,21 @@
 // What scripts are answered, by example.
-use session::intake::Intake;
+use crate::desk::Desk;
 use std::alloc::{AllocError, Global};
 use std::test::Fail;
 
 // The answers to a script, each on a line of its own.
 fn answers(heap: Global, script: &[u8]) -> Result<String, AllocError> {
-    let mut intake = Intake::new();
+    let mut desk = Desk::new();
     let mut text = String::new(heap);
     for byte in script {
-        if let Some(answer) = intake.take(*byte) {
+        if let Some(answer) = desk.take(*byte) {
             text.push_str(format!(in heap; "{answer}\n")?.as_str())?;
         }
     }
-    if let Some(answer) = intake.end_line() {
+    if let Some(answer) = desk.end_line() {
         text.push_str(format!(in heap; "{answer}\n")?.as_str())?;
     }
-    if intake.failed() {
+    if desk.failed() {
         text.push_str("failed")?;
     }
     Ok(text)

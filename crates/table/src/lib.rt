@@ -1,4 +1,6 @@
 // The table: a book that keeps a number for each account and asset.
+#![tactic(auto)]
+
 ghost use Rattle.std.specs.Prelude.{◌≡◌, ◌+◌, ◌<◌, ◌≤◌, nat_lt};
 ghost use Rattle.book.specs.Ledger.{Empty, Sound, total, most_accounts, most_assets, most_amount, most_space};
 ghost use Rattle.book.specs.Movement.{Put, Pull, Move};

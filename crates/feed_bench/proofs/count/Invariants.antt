@@ -2,5 +2,5 @@ use Rattle.std.proofs.Common.{length}
 use Rattle.feed.specs.Coming.{coming}
 use Rattle.feed_bench.proofs.count.Given as goal
 
-abbrev pub decreases_loop_found : goal.decreases_loop_found
-decreases_loop_found l = length (coming l.entries)
+abbrev pub decreases-loop-found : goal.decreases-loop-found
+decreases-loop-found l = length (coming l.entries)

@@ -1,5 +1,5 @@
 use Rattle.std.proofs.Common.{◌≡◌, length}
 use Rattle.settle.proofs.run.Given as goal
 
-abbrev pub invariant_loop : goal.invariant_loop
-invariant_loop l = length l.chunk ≡ 65536
+abbrev pub invariant-loop : goal.invariant-loop
+invariant-loop l = length l.chunk ≡ 65536

@@ -3,20 +3,20 @@ use Rattle.std.proofs.lemmas.Result.{err_from_is_err_and}
 use Rattle.feed_write.proofs.Ends.{within_room, refused_at, passed_at, no_more}
 use Rattle.feed_write.proofs.write.feed_end.Goals as goal
 
-pub returns_in_err_place : goal.returns_in_err_place
-returns_in_err_place c =
+pub returns-in-err-place : goal.returns-in-err-place
+returns-in-err-place c =
     let r = err_from_is_err_and c.from-residual.result c.from-residual.ensures.1 in
     let left = refused_at c.args.room c.loop-entry.place c.args.entries.now c.loop-entry.entry-index _ c.loop-entry-test.true c.in-err-place.ensures in
     let inv = c.loop-entry.invariant.1 in
     cc
 
-pub loop_entry_preserved : goal.loop_entry_preserved
-loop_entry_preserved c =
+pub loop-entry-preserved : goal.loop-entry-preserved
+loop-entry-preserved c =
     let h = c.in-ok-place.ensures in
     (within_room c.args.room c.loop-entry.place c.args.entries.now c.loop-entry.entry-index _ h, c.loop-entry.invariant.1 ∙ passed_at c.args.room c.loop-entry.place c.args.entries.now c.loop-entry.entry-index _ c.loop-entry-test.true h)
 
-pub returns_then_place_room : goal.returns_then_place_room
-returns_then_place_room c =
+pub returns-then-place-room : goal.returns-then-place-room
+returns-then-place-room c =
     let h = no_more c.args.room c.loop-entry.place c.args.entries.now c.loop-entry.entry-index c.loop-entry-test.false in
     let t = lt-ltb c.args.room (c.loop-entry.place + 1) (omega arith) in
     sym (c.loop-entry.invariant.1 ∙ rw t at h)

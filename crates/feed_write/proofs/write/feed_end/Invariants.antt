@@ -4,6 +4,6 @@ use Rattle.feed_write.specs.Written.{feed_end, list_end}
 use Rattle.feed_write.proofs.write.feed_end.Given as goal
 
 -- what is left decides
-abbrev pub invariant_loop_entry : goal.invariant_loop_entry
-invariant_loop_entry l =
+abbrev pub invariant-loop-entry : goal.invariant-loop-entry
+invariant-loop-entry l =
     (l.place ≤ l.room) × (feed_end l.room (map told l.entries) ≡ list_end l.room l.place (map told (drop l.entry-index l.entries)))

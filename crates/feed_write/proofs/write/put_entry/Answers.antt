@@ -4,28 +4,28 @@ use Rattle.feed_write.proofs.Sizes.{length_letters, trade_room, trade_parts, tra
 use Rattle.feed_write.proofs.Overs.{wrote_more}
 use Rattle.feed_write.proofs.write.put_entry.Goals as goal
 
-pub put_at_requires_in_Trade : goal.put_at_requires_in_Trade
-put_at_requires_in_Trade c =
+pub put-at-requires-in-Trade : goal.put-at-requires-in-Trade
+put-at-requires-in-Trade c =
     let l = trade_room c.in-Trade.is c.args.place (length c.args.out.now) c.requires.room in
     omega (arith, c.put-at.ensures.ends, c.put-at.auto.out)
 
-pub put_at_requires_in_Trade_2 : goal.put_at_requires_in_Trade_2
-put_at_requires_in_Trade_2 c =
+pub put-at-requires-in-Trade-2 : goal.put-at-requires-in-Trade-2
+put-at-requires-in-Trade-2 c =
     let l = trade_room c.in-Trade.is c.args.place (length c.args.out.now) c.requires.room in
     omega (arith, ap length c.party.ensures.value, length_letters c.in-Trade.buyer_flag)
 
-pub put_at_requires_in_Trade_3 : goal.put_at_requires_in_Trade_3
-put_at_requires_in_Trade_3 c =
+pub put-at-requires-in-Trade-3 : goal.put-at-requires-in-Trade-3
+put-at-requires-in-Trade-3 c =
     let l = trade_room c.in-Trade.is c.args.place (length c.args.out.now) c.requires.room in
     omega (arith, ap length c.party.ensures.value, ap length c.party-in-Trade.ensures.value, length_letters c.in-Trade.buyer_flag, length_letters c.in-Trade.seller_flag)
 
-pub put_requires : goal.put_requires
-put_requires c =
+pub put-requires : goal.put-requires
+put-requires c =
     let l = trade_room c.in-Trade.is c.args.place (length c.args.out.now) c.requires.room in
     omega (arith, ap length c.party.ensures.value, ap length c.party-in-Trade.ensures.value, ap length c.terms.ensures.value, length_letters c.in-Trade.buyer_flag, length_letters c.in-Trade.seller_flag)
 
-pub returns_in_Trade : goal.returns_in_Trade
-returns_in_Trade c =
+pub returns-in-Trade : goal.returns-in-Trade
+returns-in-Trade c =
     let t = c.in-Trade in
     let r = t.reference.now in
     let xs = c.args.out.now in

@@ -8,8 +8,8 @@ use Rattle.feed_write.proofs.Feeds.{joined_next, formed_next, reads_back}
 use Rattle.feed_write.proofs.Overs.{wrote_more}
 use Rattle.feed_write.proofs.write.put_feed.Goals as goal
 
-pub put_entry_place_requires : goal.put_entry_place_requires
-put_entry_place_requires c =
+pub put-entry-place-requires : goal.put-entry-place-requires
+put-entry-place-requires c =
     let es = c.args.entries.now in
     let i = c.loop-entry.entry-index in
     let room = length c.put-place.new.out in
@@ -18,8 +18,8 @@ put_entry_place_requires c =
     let f = fitted_at room c.loop-entry.place es i _ _ c.loop-entry-test.true left in
     record { sound = f.soundly; room = omega (arith, f.room_for) }
 
-pub loop_entry_preserved : goal.loop_entry_preserved
-loop_entry_preserved c =
+pub loop-entry-preserved : goal.loop-entry-preserved
+loop-entry-preserved c =
     let es = c.args.entries.now in
     let i = c.loop-entry.entry-index in
     let room = length c.put-place.new.out in
@@ -34,8 +34,8 @@ loop_entry_preserved c =
       formed_next es i _ c.loop-entry-test.true c.loop-entry.invariant.2 c.put-entry-place.ensures.formed,
     )
 
-pub put_requires : goal.put_requires
-put_requires c =
+pub put-requires : goal.put-requires
+put-requires c =
     let es = c.args.entries.now in
     let i = c.loop-entry.entry-index in
     let room = length c.put-place.new.out in

@@ -6,8 +6,8 @@ use Rattle.feed_write.proofs.Ends.{some_end, fitted}
 use Rattle.feed_write.proofs.Overs.{wrote_stands}
 use Rattle.feed_write.proofs.write.put_fitting.Goals as goal
 
-pub put_entry_requires : goal.put_entry_requires
-put_entry_requires c =
+pub put-entry-requires : goal.put-entry-requires
+put-entry-requires c =
     let g = some_end (entry_end (length c.args.out.now) c.args.place (told c.args.entry.now)) c.requires in
     let f = fitted (length c.args.out.now) c.args.place (told c.args.entry.now) g.0 g.1 in
     record { sound = f.soundly; room = f.room_for }

@@ -3,12 +3,12 @@ use Rattle.book.specs.Ledger.{sum_to}
 use Rattle.house.proofs.Emptiness.{not_empty, still_empty, some_held, none_held}
 use Rattle.house.proofs.opening.is_empty.Goals as goal
 
-pub returns_then_not_is_bare : goal.returns_then_not_is_bare
-returns_then_not_is_bare g c good =
+pub returns-then-not-is-bare : goal.returns-then-not-is-bare
+returns-then-not-is-bare g c good =
     let b = g.B.Book.ledger c.args.book.now in
     not_empty b.accounts (λ a. sum_to b.assets (b.held a)) c.loop-account.account (omega arith) (some_held _ (c.if-not-is-bare.ensures good))
 
-pub loop_account_preserved : goal.loop_account_preserved
-loop_account_preserved g c good =
+pub loop-account-preserved : goal.loop-account-preserved
+loop-account-preserved g c good =
     let b = g.B.Book.ledger c.args.book.now in
     still_empty c.loop-account.account (λ a. sum_to b.assets (b.held a)) (c.loop-account.invariant good) (none_held _ (c.if-not-is-bare.ensures good))

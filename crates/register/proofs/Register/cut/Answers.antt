@@ -2,8 +2,8 @@ use Rattle.std.proofs.Common.{take, ◌∙◌, arith, length-set}
 use Rattle.register.proofs.Packing.{emptied_more, emptied_all}
 use Rattle.register.proofs.Register.cut.Goals as goal
 
-pub loop_i_preserved : goal.loop_i_preserved
-loop_i_preserved c =
+pub loop-i-preserved : goal.loop-i-preserved
+loop-i-preserved c =
     let xs = c.loop-i.self.lines in (
       emptied_more xs (take c.args.count c.args.self.now.lines) c.loop-i.i c.args.count c.no-line.result
           (omega arith) (omega arith) c.no-line.ensures c.loop-i.invariant.0,

@@ -5,8 +5,8 @@ use Rattle.register.specs.Fits.{Nettable}
 use Rattle.register.proofs.Trades.{half_from, buyer_nettable, seller_nettable}
 use Rattle.register.proofs.Register.net_buyer.Goals as goal
 
-pub buy_requires : goal.buy_requires
-buy_requires c =
+pub buy-requires : goal.buy-requires
+buy-requires c =
     let g = c.args.self.now in
     let n = buyer_nettable g c.args.due c.args.trade c.requires.register.table c.requires.room c.requires.register.lines c.requires.trade in
     record { line = subst (Nettable g) (sym c.buyer_key.ensures) n; trade = c.requires.trade }

@@ -2,9 +2,9 @@ use Rattle.std.proofs.Common.{sym, add-one, arith}
 use Rattle.register.proofs.KeyPlaces.{place_at, place_not_at}
 use Rattle.register.proofs.Register.place.Goals as goal
 
-pub returns_then_has_at : goal.returns_then_has_at
-returns_then_has_at c =
+pub returns-then-has-at : goal.returns-then-has-at
+returns-then-has-at c =
     sym (place_at c.args.self.now c.args.key c.loop-i.i c.loop-i.invariant (cc) (omega arith))
 
-pub loop_i_preserved : goal.loop_i_preserved
-loop_i_preserved c = rw add-one (place_not_at c.args.self.now c.args.key c.loop-i.i c.loop-i.invariant (cc))
+pub loop-i-preserved : goal.loop-i-preserved
+loop-i-preserved c = rw add-one (place_not_at c.args.self.now c.args.key c.loop-i.i c.loop-i.invariant (cc))

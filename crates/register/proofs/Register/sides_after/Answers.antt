@@ -4,8 +4,8 @@ use Rattle.register.specs.Fits.{Sized}
 use Rattle.register.proofs.Trades.{sized_line_of, sides_from, buyer_after, seller_after}
 use Rattle.register.proofs.Register.sides_after.Goals as goal
 
-pub netted_sides_requires : goal.netted_sides_requires
-netted_sides_requires c =
+pub netted-sides-requires : goal.netted-sides-requires
+netted-sides-requires c =
     let g = c.args.self.now in
     record {
       buyer = subst (Sized 1) (sym c.line-or-blank.ensures) (sized_line_of g c.buyer-key-buyer.result c.requires.register.lines);

@@ -4,16 +4,16 @@ use Rattle.script.specs.Numeral.{digit, digits, value, value_on}
 use Rattle.script.proofs.Values.{capped, capped_value, no_numeral, past_range, in_range}
 use Rattle.script.proofs.number.number.Goals as goal
 
-pub returns_then_not_is_digit : goal.returns_then_not_is_digit
-returns_then_not_is_digit c =
+pub returns-then-not-is-digit : goal.returns-then-not-is-digit
+returns-then-not-is-digit c =
     let w = c.args.word.now in
     let i = c.loop-byte.byte-index in
     let here : digits (drop i w) ≡ (digit (get_or w i 0) && digits (drop (i + 1) w)) = at_drop_more digits w i 0 c.loop-byte-test.true in
     let bad : digits w ≡ false = sym c.loop-byte.invariant.1 ∙ here ∙ ap (λ t. t && digits (drop (i + 1) w)) (sym c.if-not-is-digit.ensures) in
     sym (no_numeral c.args.most w (false-eqb _ 0 c.if-is-empty.ensures) bad)
 
-pub loop_byte_preserved : goal.loop_byte_preserved
-loop_byte_preserved c =
+pub loop-byte-preserved : goal.loop-byte-preserved
+loop-byte-preserved c =
     let w = c.args.word.now in
     let i = c.loop-byte.byte-index in
     let v = c.loop-byte.value in
@@ -26,8 +26,8 @@ loop_byte_preserved c =
       ap (λ n. capped (value_on n left)) c.min-value.ensures ∙ capped_value (v * 10 + d) left ∙ ap capped (sym on) ∙ c.loop-byte.invariant.2,
     )
 
-pub returns_then_value_most : goal.returns_then_value_most
-returns_then_value_most c =
+pub returns-then-value-most : goal.returns-then-value-most
+returns-then-value-most c =
     let w = c.args.word.now in
     let all : digits (drop c.loop-byte.byte-index w) ≡ true = at_drop_all digits w _ c.loop-byte-test.false in
     let end = at_drop_all (value_on c.loop-byte.value) w _ c.loop-byte-test.false in

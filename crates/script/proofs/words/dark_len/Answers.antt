@@ -3,11 +3,11 @@ use Rattle.std.proofs.lemmas.List.Sums.{prefix_len-drop_yes, prefix_len-drop_no,
 use Rattle.script.specs.Splitting.{dark}
 use Rattle.script.proofs.words.dark_len.Goals as goal
 
-pub loop_n_preserved : goal.loop_n_preserved
-loop_n_preserved c = search (rules, prefix_len-drop_yes dark)
+pub loop-n-preserved : goal.loop-n-preserved
+loop-n-preserved c = search (rules, prefix_len-drop_yes dark)
 
-pub returns_else_not_is_white : goal.returns_else_not_is_white
-returns_else_not_is_white c = search (rules, prefix_len-drop_no dark)
+pub returns-else-not-is-white : goal.returns-else-not-is-white
+returns-else-not-is-white c = search (rules, prefix_len-drop_no dark)
 
-pub returns_after_loop_n : goal.returns_after_loop_n
-returns_after_loop_n c = search (rules, prefix_len-drop_all dark)
+pub returns-after-loop-n : goal.returns-after-loop-n
+returns-after-loop-n c = search (rules, prefix_len-drop_all dark)

@@ -3,11 +3,11 @@ use Rattle.std.proofs.lemmas.List.Sums.{prefix_len-drop_yes, prefix_len-drop_no,
 use Rattle.script.specs.Splitting.{white}
 use Rattle.script.proofs.words.white_len.Goals as goal
 
-pub loop_n_preserved : goal.loop_n_preserved
-loop_n_preserved c = search (rules, prefix_len-drop_yes white)
+pub loop-n-preserved : goal.loop-n-preserved
+loop-n-preserved c = search (rules, prefix_len-drop_yes white)
 
-pub returns_else_is_white : goal.returns_else_is_white
-returns_else_is_white c = search (rules, prefix_len-drop_no white)
+pub returns-else-is-white : goal.returns-else-is-white
+returns-else-is-white c = search (rules, prefix_len-drop_no white)
 
-pub returns_after_loop_n : goal.returns_after_loop_n
-returns_after_loop_n c = search (rules, prefix_len-drop_all white)
+pub returns-after-loop-n : goal.returns-after-loop-n
+returns-after-loop-n c = search (rules, prefix_len-drop_all white)

@@ -3,8 +3,8 @@ use Rattle.std.proofs.lemmas.Slice.{pushed}
 use Rattle.statement.proofs.Rowing.{one_more_from_none}
 use Rattle.statement.proofs.account.balances.Goals as goal
 
-pub loop_asset_preserved : goal.loop_asset_preserved
-loop_asset_preserved g c good =
+pub loop-asset-preserved : goal.loop-asset-preserved
+loop-asset-preserved g c good =
     pushed c.as-str.result.now refl c.in-ok-push-str.was c.push-str.ensures.bytes
     ∙ one_more_from_none ((g.B.Book.ledger c.args.book.now).held c.args.account) c.loop-asset.asset c.holds-held.result _ _
     (c.holds-held.ensures good) (c.loop-asset.invariant good) (c.as-str.ensures.value ∙ c.in-ok-word.ensures.ok)

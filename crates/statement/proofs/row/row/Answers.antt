@@ -5,8 +5,8 @@ use Rattle.statement.specs.Rows.{amount_in, row_text}
 use Rattle.statement.proofs.Rowing.{ended, one_more}
 use Rattle.statement.proofs.row.row.Goals as goal
 
-pub loop_place_preserved : goal.loop_place_preserved
-loop_place_preserved g c = (
+pub loop-place-preserved : goal.loop-place-preserved
+loop-place-preserved g c = (
   omega arith,
   λ good.
       let h = c.args.house.now in

@@ -3,7 +3,7 @@ use Rattle.table.specs.Rows.{cell}
 use Rattle.book.proofs.Sums.{sum_more}
 use Rattle.table.proofs.rows.sum_over.Goals as goal
 
-pub loop_account_preserved : goal.loop_account_preserved
-loop_account_preserved c =
+pub loop-account-preserved : goal.loop-account-preserved
+loop-account-preserved c =
     let more = sum_more c.loop-account.account (λ a. cell c.args.rows.now a c.args.asset) in
     omega arith

@@ -3,5 +3,5 @@ use Rattle.book.specs.Ledger.{sum_to}
 use Rattle.table.specs.Rows.{cell, most_number}
 use Rattle.table.proofs.rows.sum_over.Given as goal
 
-abbrev pub invariant_loop_account : goal.invariant_loop_account
-invariant_loop_account l = l.sum ≡ min (sum_to l.account (λ a. cell l.rows a l.asset)) most_number
+abbrev pub invariant-loop-account : goal.invariant-loop-account
+invariant-loop-account l = l.sum ≡ min (sum_to l.account (λ a. cell l.rows a l.asset)) most_number

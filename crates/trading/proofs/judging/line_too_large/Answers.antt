@@ -4,8 +4,8 @@ use Rattle.register.specs.Netting.{trade_too_large}
 use Rattle.trading.proofs.Trades.{register_kept, trade_sound}
 use Rattle.trading.proofs.judging.line_too_large.Goals as goal
 
-pub trade_too_large_requires : goal.trade_too_large_requires
-trade_too_large_requires c =
+pub trade-too-large-requires : goal.trade-too-large-requires
+trade-too-large-requires c =
     let f = c.args.f.now in
     let t = c.args.trade in
     record {

@@ -4,8 +4,8 @@ use Rattle.rules.specs.Fit.{Fit}
 use Rattle.trading.proofs.Trades.{register_kept, trade_sound, room_found, fit_netted, due_today}
 use Rattle.trading.proofs.netting.net.Goals as goal
 
-pub net_requires : goal.net_requires
-net_requires c =
+pub net-requires : goal.net-requires
+net-requires c =
     let f = c.args.f.now in
     let t = c.args.trade in
     record {

@@ -3,8 +3,8 @@ use Rattle.std.proofs.lemmas.Result.{err_from_is_err_and}
 use Rattle.trading.proofs.Trades.{refused_trade, sound_trade_next}
 use Rattle.trading.proofs.netting.novate.Goals as goal
 
-pub returns_in_err_judge_trade : goal.returns_in_err_judge_trade
-returns_in_err_judge_trade c =
+pub returns-in-err-judge-trade : goal.returns-in-err-judge-trade
+returns-in-err-judge-trade c =
     let p = err_from_is_err_and c.from-residual.result c.from-residual.ensures.1 in
     let r = refused_trade c.args.f.now c.args.trade c.from-residual.result _ (p.1 ∙ ap Err p.2) c.in-err-judge-trade.ensures in
     record { answer = r.answer; figures = r.figures; fit = c.requires }

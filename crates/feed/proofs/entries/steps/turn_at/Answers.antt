@@ -2,13 +2,13 @@ use Rattle.std.proofs.Common.{length, sym, ap, arith}
 use Rattle.feed.proofs.Turns.{never_refused, last, still_good, one_less}
 use Rattle.feed.proofs.entries.steps.turn_at.Goals as goal
 
-pub unreachable_requires : goal.unreachable_requires
-unreachable_requires c =
+pub unreachable-requires : goal.unreachable-requires
+unreachable-requires c =
     let h = rw (c.at-reader.ensures.0, c.at-reader.ensures.1) at c.in-Err.ensures.step.2 in
     never_refused c.args.bytes.now c.args.place _ c.requires.good h
 
-pub returns_in_err_entry : goal.returns_in_err_entry
-returns_in_err_entry c =
+pub returns-in-err-entry : goal.returns-in-err-entry
+returns-in-err-entry c =
     let h = rw (c.at-reader.ensures.0, c.at-reader.ensures.1, c.in-err-entry.was) at c.in-Ok.ensures.step.2 in
     rw c.from-residual.ensures (last c.args.bytes.now c.args.place _ h)
 

@@ -3,13 +3,13 @@ use Rattle.feed.specs.Format.{judged, list_from}
 use Rattle.feed.proofs.Turns.{past_head, past_entry, judged_ahead}
 use Rattle.feed.proofs.feed.RawFeed.check.Goals as goal
 
-pub loop_init : goal.loop_init
-loop_init c =
+pub loop-init : goal.loop-init
+loop-init c =
     let h = rw (c.at-reader.ensures.0, c.at-reader.ensures.1) at c.in-ok-head.ensures.2 in
     (c.head.ensures.1 ∙ c.at-reader.ensures.0, past_head c.args.self.now.bytes.now _ _ h)
 
-pub loop_preserved : goal.loop_preserved
-loop_preserved c =
+pub loop-preserved : goal.loop-preserved
+loop-preserved c =
     let bs = c.args.self.now.bytes.now in
     let i = c.loop.invariant in
     let h = rw (i.0, c.in-Some.is) at c.in-ok-entry.ensures.step.2 in

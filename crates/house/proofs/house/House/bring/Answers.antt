@@ -3,8 +3,8 @@ use Rattle.rules.proofs.FitProp.{fit_out}
 use Rattle.house.proofs.Passing.{answered, bring_asks}
 use Rattle.house.proofs.house.House.bring.Goals as goal
 
-pub bring_requires : goal.bring_requires
-bring_requires g c = fit_out _ c.args.self.now.fit
+pub bring-requires : goal.bring-requires
+bring-requires g c = fit_out _ c.args.self.now.fit
 
 pub returns : goal.returns
 returns g c =

@@ -3,8 +3,8 @@ use Rattle.rules.proofs.FitProp.{fit_out}
 use Rattle.house.proofs.Passing.{answered, contribute_asks}
 use Rattle.house.proofs.house.House.contribute.Goals as goal
 
-pub contribute_requires : goal.contribute_requires
-contribute_requires g c = fit_out _ c.args.self.now.fit
+pub contribute-requires : goal.contribute-requires
+contribute-requires g c = fit_out _ c.args.self.now.fit
 
 pub returns : goal.returns
 returns g c =

@@ -3,8 +3,8 @@ use Rattle.rules.proofs.FitProp.{fit_out}
 use Rattle.house.proofs.Passing.{answered, pledge_asks}
 use Rattle.house.proofs.house.House.pledge.Goals as goal
 
-pub pledge_requires : goal.pledge_requires
-pledge_requires g c = fit_out _ c.args.self.now.fit
+pub pledge-requires : goal.pledge-requires
+pledge-requires g c = fit_out _ c.args.self.now.fit
 
 pub returns : goal.returns
 returns g c =

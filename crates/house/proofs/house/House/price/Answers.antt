@@ -5,11 +5,11 @@ use Rattle.rules.proofs.FitProp.{fit_out}
 use Rattle.desk.specs.Passed.{state_of}
 use Rattle.house.proofs.house.House.price.Goals as goal
 
-pub set_close_requires : goal.set_close_requires
-set_close_requires g c = fit_out _ c.args.self.now.fit
+pub set-close-requires : goal.set-close-requires
+set-close-requires g c = fit_out _ c.args.self.now.fit
 
-pub invariant_of_self : goal.invariant_of_self
-invariant_of_self g c =
+pub invariant-of-self : goal.invariant-of-self
+invariant-of-self g c =
     let h = c.args.self.now in
     let b = g.B.Book.ledger h.book in (
       ∣ fit_left (g.R.Rank.goes h.rank) (state_of h.figures b) (record { event = Price c.args.security c.args.price; space = b.space }) (answer_of c.set-close.result) c.set-close.new.f

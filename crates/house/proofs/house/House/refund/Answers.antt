@@ -3,8 +3,8 @@ use Rattle.rules.proofs.FitProp.{fit_out}
 use Rattle.house.proofs.Passing.{answered, refund_asks}
 use Rattle.house.proofs.house.House.refund.Goals as goal
 
-pub refund_requires : goal.refund_requires
-refund_requires g c = fit_out _ c.args.self.now.fit
+pub refund-requires : goal.refund-requires
+refund-requires g c = fit_out _ c.args.self.now.fit
 
 pub returns : goal.returns
 returns g c =

@@ -3,8 +3,8 @@ use Rattle.rules.proofs.FitProp.{fit_out}
 use Rattle.house.proofs.Passing.{answered, take_asks}
 use Rattle.house.proofs.house.House.take.Goals as goal
 
-pub take_requires : goal.take_requires
-take_requires g c = fit_out _ c.args.self.now.fit
+pub take-requires : goal.take-requires
+take-requires g c = fit_out _ c.args.self.now.fit
 
 pub returns : goal.returns
 returns g c =

@@ -1,5 +1,5 @@
 use Rattle.std.proofs.Common.{refl}
 use Rattle.script.proofs.misread.Misread.words.Goals as goal
 
-pub returns_in_Unknown : goal.returns_in_Unknown
-returns_in_Unknown c = rw c.in-Unknown.is refl
+pub returns-in-Unknown : goal.returns-in-Unknown
+returns-in-Unknown c = rw c.in-Unknown.is refl

@@ -3,6 +3,6 @@ use Rattle.script.specs.Meaning.{empty, filled}
 use Rattle.script.specs.Splitting.{words_of}
 use Rattle.script.proofs.row.Row.read.Given as goal
 
-abbrev pub invariant_loop_place : goal.invariant_loop_place
-invariant_loop_place l =
+abbrev pub invariant-loop-place : goal.invariant-loop-place
+invariant-loop-place l =
     filled l.form (words_of l.initial.words.rest.now) 0 empty ≡ filled (drop l.place l.form) (words_of l.words.rest.now) l.place l.row

@@ -1,5 +1,0 @@
-use Rattle.session.proofs.Runs.{line_by_line}
-use Rattle.session.proofs.laws.scripts_go_by_lines.Goals as goal
-
-pub returns : goal.returns
-returns c = line_by_line

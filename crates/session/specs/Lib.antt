@@ -1,4 +1,0 @@
-pub mod Rooms
-pub mod Sessions
-pub mod Intakes
-pub mod Scripts

@@ -1,0 +1,3 @@
+mod Hearing
+mod Listing
+mod Runs

@@ -1,0 +1,6 @@
+pub mod Answers
+pub mod Obedience
+pub mod Sessions
+pub mod Statements
+pub mod Desks
+pub mod Scripts
