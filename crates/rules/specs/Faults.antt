@@ -2,17 +2,15 @@
 use Rattle.std.specs.Prelude.{ℕ, Bool, true, false, List, Ok, Err, Result}
 use Rattle.book.specs.Refusals.{Refusal, first}
 use Rattle.book.specs.Faults.{fault_number}
-use Rattle.rules.specs.declared.fault.Layer.{Layer}
-use Rattle.rules.specs.declared.fault.Layer.TheVariants as layer
+use Rattle.rules.specs.declared.fault.Layer.{Layer as CodeLayer}
+use Rattle.rules.specs.declared.fault.Layer.TheVariants as code_layer
 use Rattle.rules.specs.declared.fault.HouseFault.{HouseFault}
 use Rattle.rules.specs.declared.fault.HouseFault.TheVariants.{NoMember, NoAsset, NoFlag, BadAmount, WrongPhase, Bound, BelowRequirement, NoPlace, LineTooLarge, PositionTooLarge, NoClose, NothingOpen, TooEarly, LastDay, UnfitBook, BadCounts, Book}
 
--- Where a refusal of a house arose.
-abbrev pub book_layer : Layer
-book_layer = layer.Book
-
-abbrev pub house_layer : Layer
-house_layer = layer.House
+-- Where a refusal arose.
+pub data Layer : Type 0 where
+  book_layer : Layer
+  house_layer : Layer
 
 pub data Answer : Type 0 where
   accepted : Answer
@@ -37,16 +35,17 @@ refusal UnfitBook = refused house_layer 18
 refusal BadCounts = refused house_layer 19
 refusal (Book f) = refused book_layer (fault_number f)
 
--- Its layer and its number apart.
-abbrev pub layer_in : Answer → Layer
-layer_in accepted = house_layer
-layer_in (refused l n) = l
+-- Its layer, as the code names it, and its number apart.
+abbrev pub layer_in : Answer → CodeLayer
+layer_in accepted = code_layer.House
+layer_in (refused book_layer n) = code_layer.Book
+layer_in (refused house_layer n) = code_layer.House
 
 abbrev pub number_in : Answer → ℕ
 number_in accepted = 0
 number_in (refused l n) = n
 
-abbrev pub refusal_layer : HouseFault → Layer
+abbrev pub refusal_layer : HouseFault → CodeLayer
 refusal_layer x = layer_in (refusal x)
 
 abbrev pub refusal_number : HouseFault → ℕ
