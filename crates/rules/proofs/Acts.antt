@@ -12,7 +12,7 @@ use Rattle.rules.specs.declared.figures.Member.{Member}
 use Rattle.rules.specs.declared.figures.Row.{Row}
 use Rattle.register.specs.declared.Register.{Register}
 use Rattle.rules.specs.declared.figures.Figures.{Figures}
-use Rattle.rules.specs.State.{State, no_row, member, today, put_line, put_member, put_escrow, with_fails}
+use Rattle.rules.specs.State.{State, no_row, today, put_line, put_member, put_escrow, with_fails}
 use Rattle.register.specs.Lines.{line}
 use Rattle.rules.specs.Run.{Act, settle, give, give_escrow, serve, pay, pay_out, repay, pay_charges, pass, mark_line, mark, charge, compensate, close_line, require, amount, noted, after_act, performed, Along, Before, goes_before, ordered, in_run, places_if, due_today, upto, from_one, each, all_members, all_securities, all_places, share, differences, deliveries_of, deliveries, servings, payments_of, payments, payouts, repayments_of, repayments, passings_of, passings, marks, chargings, delivering, receiving, line_given, line_served, line_settled, line_marked}
 use Rattle.rules.specs.Fit.{Shape}

@@ -6,7 +6,6 @@ use Rattle.std.proofs.lemmas.List.{append-nil, map-append, get_or-set_same, get_
 use Rattle.std.proofs.lemmas.Int.{ints}
 use Rattle.std.proofs.lemmas.Bool.Decides.{nat_tests}
 use Rattle.std.proofs.lemmas.Bool.{cases_eq, cases_lt, cases_Bool, eq-eqb, ne_eqb, eqb-true, leb-true, lt-ltb, le-ltb, both_ways, and_parts, and_from, and_left, and_right, not_from_true, cond-true, cond-false, cond_both}
-use Rattle.std.specs.List.{AllByRecursion as All}
 use Rattle.book.specs.Ledger.{Balances}
 use Rattle.book.specs.Posting.{posted, takes_move}
 use Rattle.rank.specs.declared.key.Key.{Key}
@@ -22,7 +21,7 @@ use Rattle.rules.specs.State.{State, pool, cash, no_member, member, position, cl
 use Rattle.register.specs.Lines.{no_line, line, key, delivers, receives, in_group, due_by, sumZ, sumZ_if}
 use Rattle.register.specs.Netting.{due_day}
 use Rattle.rules.specs.Run.{Act, close_line, compensate, require, noted, after_act, performed, places_if, all_members, required, line_closed, line_served, compensation_due}
-use Rattle.rules.specs.Day.{traded_today, closings, requirements, finished, dropped, next_morning, closed_day, ended_day, compensation, cash_settlements}
+use Rattle.rules.specs.Day.{traded_today, requirements, finished, dropped, next_morning, closed_day, ended_day, compensation, cash_settlements}
 use Rattle.register.specs.Dropping.{lines_if}
 use Rattle.rules.specs.Events.{is_morning, is_shut}
 use Rattle.rules.specs.Fit.{Shape, Known}

@@ -1,13 +1,12 @@
 -- The bounds of the figures are a proposition, so that what a ghost field has of them can be taken out again.
-use Rattle.std.proofs.Common.{◌≡◌, ℕ, ◌<◌, ◌≤◌, length, get_or, pos}
+use Rattle.std.proofs.Common.{◌≡◌, ℕ, ◌<◌, ◌≤◌, pos}
 use mathlib.Core.Logic.{∥∥₁_elim}
 use denote.Struct.Props.{props}
 use Rattle.register.specs.declared.line.Line.{Line}
 use Rattle.register.specs.Lines.{line}
-use Rattle.register.specs.Netting.{due_day}
 use Rattle.rules.specs.declared.figures.Member.{Member}
 use Rattle.rules.specs.declared.figures.Figures.{Figures}
-use Rattle.rules.specs.State.{no_row, member, today}
+use Rattle.rules.specs.State.{member}
 use Rattle.rules.specs.Fit.{Shape, Known, LineFits, MemberFits, Bounds, Fit}
 
 at_most : {m n : ℕ} → IsProp (m ≤ n)

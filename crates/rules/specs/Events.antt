@@ -18,7 +18,7 @@ use Rattle.rules.specs.Limits.{most_members, most_securities, most_position, las
 use Rattle.register.specs.Limits.{most_quantity, most_price, register_places}
 use Rattle.rules.specs.Faults.{Answer, answer_by}
 use Rattle.rules.specs.State.{State, total_of, reserve, settlement, collateral, contribution, cash, member, position, in_escrow, close, today, owes, call, put_close, with_clock, with_register, with_figures, with_balances}
-use Rattle.register.specs.Lines.{line, sum_if, delivers, in_group, rest_of}
+use Rattle.register.specs.Lines.{sum_if, delivers, in_group, rest_of}
 use Rattle.register.specs.Netting.{due_day, line_of, buyer_key, trade_filed, trade_too_large}
 use Rattle.rules.specs.Run.{Before, Act, performed, in_phases, noon_run, two_run}
 use Rattle.rules.specs.Day.{traded_today, ended_day, cash_settlements}

@@ -5,7 +5,6 @@ use Rattle.book.specs.Movement.{Movement, Move, movement_number}
 use Rattle.book.specs.Laws.{put_in, taken_out}
 use Rattle.rank.specs.Laws.{Lawful}
 use Rattle.rules.specs.declared.event.Event.{Event}
-use Rattle.register.specs.declared.line.Line.{Line}
 use Rattle.rules.specs.Limits.{most_members, most_securities}
 use Rattle.rules.specs.Faults.{is_accepted}
 use Rattle.rules.specs.State.{State, total_of, pool, cash, position, owes, opened}
