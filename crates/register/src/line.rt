@@ -1,9 +1,9 @@
 // A line: what the register keeps, and one side of a trade netted into it.
 ghost use Rattle.std.specs.Prelude.{◌≡◌, ◌*◌, ◌≤◌, pos, ◌+ℤ◌, neg_ℤ, unsigned_abs};
 ghost use Rattle.register.specs.Limits.{most_quantity, most_price, most_money};
-ghost use Rattle.register.specs.Lines.{blank-line};
-ghost use Rattle.register.specs.Netting.{order_price, lower_sale, netted-line, bought-line, sold-line, too_large};
-ghost use Rattle.register.specs.Sides.{crossed-line};
+ghost use Rattle.register.specs.Lines.{blank as blank_line};
+ghost use Rattle.register.specs.Netting.{order_price, lower_sale, netted as netted_line, bought as bought_line, sold as sold_line, too_large};
+ghost use Rattle.register.specs.Sides.{crossed as crossed_line};
 ghost use Rattle.register.specs.Dropping.{finished_by};
 ghost use Rattle.register.specs.Fits.{Sized};
 
@@ -91,7 +91,7 @@ fn lowered(sum: i64, by: u64) -> i64
 impl Line {
     // A line without any trade.
     pub fn blank(key: Key) -> Line
-        ensures { result ≡ blank-line key }
+        ensures { result ≡ blank_line key }
     {
         Line {
             claim: Claim {
@@ -112,7 +112,7 @@ impl Line {
     // The line with other sums and prices. Nothing of it is delivered yet.
     fn netted(self, quantity: i64, money: i64, highest: u32, lowest: u32) -> Line
         requires { unsigned_abs quantity ≤ 3 * most_quantity }
-        ensures { result ≡ netted-line self quantity money highest lowest }
+        ensures { result ≡ netted_line self quantity money highest lowest }
     {
         let mut next = self;
         next.claim.quantity = quantity;
@@ -130,7 +130,7 @@ impl Line {
         requires line { Sized 2 self }
         requires quantity { quantity ≤ most_quantity }
         requires price { price ≤ most_price }
-        ensures { result ≡ bought-line self quantity price }
+        ensures { result ≡ bought_line self quantity price }
     {
         let shares = lowered(self.claim.quantity, u64::from(quantity));
         let money = lowered(self.money, cost(quantity, price));
@@ -142,7 +142,7 @@ impl Line {
         requires line { Sized 2 self }
         requires quantity { quantity ≤ most_quantity }
         requires price { price ≤ most_price }
-        ensures { result ≡ sold-line self quantity price }
+        ensures { result ≡ sold_line self quantity price }
     {
         let shares = raised(self.claim.quantity, u64::from(quantity));
         let money = raised(self.money, cost(quantity, price));
@@ -154,7 +154,7 @@ impl Line {
         requires line { Sized 1 self }
         requires quantity { quantity ≤ most_quantity }
         requires price { price ≤ most_price }
-        ensures { result ≡ crossed-line self quantity price }
+        ensures { result ≡ crossed_line self quantity price }
     {
         self.bought(quantity, price).sold(quantity, price)
     }

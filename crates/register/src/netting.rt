@@ -1,7 +1,7 @@
 // Both sides of a trade netted into the register, and what is asked before.
 ghost use Rattle.std.specs.Prelude.{◌≡◌, ◌<◌, nat_lt};
 ghost use Rattle.register.specs.Limits.{register_places};
-ghost use Rattle.register.specs.Netting.{place_of, line_of, bought-line, sold-line, filed, buyer_key, seller_key, buyer_filed, trade_filed, trade_too_large};
+ghost use Rattle.register.specs.Netting.{place_of, line_of, bought as bought_line, sold as sold_line, filed, buyer_key, seller_key, buyer_filed, trade_filed, trade_too_large};
 ghost use Rattle.register.specs.Sides.{sides_netted, new_lines};
 ghost use Rattle.register.specs.Fits.{Tabled, Sized, Kept, Judged, Nettable, Room};
 
@@ -57,7 +57,7 @@ impl Register {
     fn buy(&mut self, key: Key, trade: Trade)
         requires line { Nettable self.old key }
         requires trade { Judged trade }
-        ensures { self.new ≡ filed self.old key (bought-line (line_of self.old key) trade.quantity trade.price) }
+        ensures { self.new ≡ filed self.old key (bought_line (line_of self.old key) trade.quantity trade.price) }
     {
         let line = self.line_or_blank(key).bought(trade.quantity, trade.price);
         self.file(key, line);
@@ -67,7 +67,7 @@ impl Register {
     fn sell(&mut self, key: Key, trade: Trade)
         requires line { Nettable self.old key }
         requires trade { Judged trade }
-        ensures { self.new ≡ filed self.old key (sold-line (line_of self.old key) trade.quantity trade.price) }
+        ensures { self.new ≡ filed self.old key (sold_line (line_of self.old key) trade.quantity trade.price) }
     {
         let line = self.line_or_blank(key).sold(trade.quantity, trade.price);
         self.file(key, line);

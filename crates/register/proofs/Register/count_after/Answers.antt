@@ -6,8 +6,8 @@ use Rattle.register.specs.Sides.{new_lines}
 use Rattle.register.proofs.Trades.{new_few, count_lacks}
 use Rattle.register.proofs.Register.count_after.Goals as goal
 
-pub overflow-add-result : goal.overflow-add-result
-overflow-add-result c =
+pub overflow_add-result : goal.overflow_add-result
+overflow_add-result c =
     let a = new_few c.args.self.now c.buyer_key.result c.seller_key.result in
     let b = c.requires.few in
     search rules

@@ -4,12 +4,12 @@ use Rattle.register.specs.Fits.{Sized}
 use Rattle.register.proofs.Trades.{sized_line_of, sides_from, buyer_after, seller_after}
 use Rattle.register.proofs.Register.sides_after.Goals as goal
 
-pub netted-sides-requires : goal.netted-sides-requires
-netted-sides-requires c =
+pub netted_sides-requires : goal.netted_sides-requires
+netted_sides-requires c =
     let g = c.args.self.now in
     record {
-      buyer = subst (Sized 1) (sym c.line-or-blank.ensures) (sized_line_of g c.buyer-key-buyer.result c.requires.register.lines);
-      seller = subst (Sized 1) (sym c.line-or-blank-2.ensures) (sized_line_of g c.seller-key-seller.result c.requires.register.lines);
+      buyer = subst (Sized 1) (sym c.line_or_blank.ensures) (sized_line_of g c.buyer_key-buyer.result c.requires.register.lines);
+      seller = subst (Sized 1) (sym c.line_or_blank-2.ensures) (sized_line_of g c.seller_key-seller.result c.requires.register.lines);
       trade = c.requires.trade;
     }
 
@@ -18,10 +18,10 @@ returns c =
     let g = c.args.self.now in
     let t = c.args.trade in
     let d = c.args.due in
-    let e = sides_from g d t c.netted-sides.result c.buyer-key-buyer.result c.seller-key-seller.result
-    c.same-key.result c.line-or-blank.result c.line-or-blank-2.result
-    c.buyer-key-buyer.ensures c.seller-key-seller.ensures c.same-key.ensures c.line-or-blank.ensures c.line-or-blank-2.ensures
-    c.netted-sides.ensures in
+    let e = sides_from g d t c.netted_sides.result c.buyer_key-buyer.result c.seller_key-seller.result
+    c.same_key.result c.line_or_blank.result c.line_or_blank-2.result
+    c.buyer_key-buyer.ensures c.seller_key-seller.ensures c.same_key.ensures c.line_or_blank.ensures c.line_or_blank-2.ensures
+    c.netted_sides.ensures in
     record {
       buyer = ap (λ (s : Sides). s.buyer) e ∙ buyer_after g d t c.requires.register.table c.requires.room;
       seller = ap (λ (s : Sides). s.seller) e ∙ seller_after g d t c.requires.register.table c.requires.room;

@@ -16,14 +16,14 @@ returns c =
     let s = c.args.asset in
     let n = c.args.amount in
     let f = cell b.rows in
-    kept (Move a d s n) b (record { accounts = b.accounts; assets = b.assets; rows = c.write-balance-2.new.rows }) refl refl
+    kept (Move a d s n) b (record { accounts = b.accounts; assets = b.assets; rows = c.write_balance-2.new.rows }) refl refl
     (λ h ok. let x = h.few_accounts in let y = h.few_assets in let o = move_accepted (meaning b) a d s n ok in
     let m = h.total_within s in
     let la = term_within_sum b.accounts (λ x. cell b.rows x s) a o.from in
     let ld = term_within_sum b.accounts (λ x. cell b.rows x s) d o.to in
-    let v : c.saturating-sub.result ≡ cell b.rows a s - n = omega arith in
-    let w : c.saturating-add.result ≡ cell b.rows d s + n = omega arith in
-    c.write-balance-2.ensures (omega arith) (omega arith)
-    ∙ (ap (λ (g : Balances). with_held g d s c.saturating-add.result) (c.write-balance.ensures (omega arith) (omega arith))
-    ∙ (ap (λ z. with_held (with_held f a s z) d s c.saturating-add.result) v
+    let v : c.saturating_sub.result ≡ cell b.rows a s - n = omega arith in
+    let w : c.saturating_add.result ≡ cell b.rows d s + n = omega arith in
+    c.write_balance-2.ensures (omega arith) (omega arith)
+    ∙ (ap (λ (g : Balances). with_held g d s c.saturating_add.result) (c.write_balance.ensures (omega arith) (omega arith))
+    ∙ (ap (λ z. with_held (with_held f a s z) d s c.saturating_add.result) v
     ∙ ap (λ z. with_held (with_held f a s (f a s - n)) d s z) w)))

@@ -14,8 +14,8 @@ returns c =
     let a = c.args.account in
     let s = c.args.asset in
     let n = c.args.amount in
-    kept (Put a s n) b (record { accounts = b.accounts; assets = b.assets; rows = c.write-balance.new.rows }) refl refl
+    kept (Put a s n) b (record { accounts = b.accounts; assets = b.assets; rows = c.write_balance.new.rows }) refl refl
     (λ h ok. let x = h.few_accounts in let y = h.few_assets in let o = put_accepted (meaning b) a s n ok in
     let l = term_within_sum b.accounts (λ x. cell b.rows x s) a o.account in
-    let v : c.saturating-add.result ≡ cell b.rows a s + n = omega arith in
-    c.write-balance.ensures (omega arith) (omega arith) ∙ ap (λ z. with_held (cell b.rows) a s z) v)
+    let v : c.saturating_add.result ≡ cell b.rows a s + n = omega arith in
+    c.write_balance.ensures (omega arith) (omega arith) ∙ ap (λ z. with_held (cell b.rows) a s z) v)
