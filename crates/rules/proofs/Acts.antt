@@ -16,7 +16,7 @@ use Rattle.rules.specs.State.{State, no_row, today, put_line, put_member, put_es
 use Rattle.register.specs.Lines.{line}
 use Rattle.rules.specs.Run.{Act, settle, give, give_escrow, serve, pay, pay_out, repay, pay_charges, pass, mark_line, mark, charge, compensate, close_line, require, amount, noted, after_act, performed, Along, Before, goes_before, ordered, in_run, places_if, due_today, upto, from_one, each, all_members, all_securities, all_places, share, differences, deliveries_of, deliveries, servings, payments_of, payments, payouts, repayments_of, repayments, passings_of, passings, marks, chargings, delivering, receiving, line_given, line_served, line_settled, line_marked}
 use Rattle.rules.specs.Fit.{Shape}
-use Rattle.rules.proofs.Written.{getD_with, line_with, row}
+use Rattle.rules.proofs.Written.{get_or_with, line_with, row}
 
 -- A member of the house, a security, a place of the register.
 abbrev pub MemberOf : Figures → ℕ → Type 0
@@ -85,7 +85,7 @@ row_length f m s n k h l =
     ⊎_elim
     (λ (e : k ≡ m).
     let b : m < length f.escrow = let r = h.rows in omega arith in
-    ap (λ (x : Row). length x.shares) (getD_with f.escrow m _ no_row b k ∙ ap (λ t. cond t (record { shares = set (row f m).shares s n }) (row f k)) (eq-eqb k m e))
+    ap (λ (x : Row). length x.shares) (get_or_with f.escrow m _ no_row b k ∙ ap (λ t. cond t (record { shares = set (row f m).shares s n }) (row f k)) (eq-eqb k m e))
     ∙ (length-set (row f m).shares s n ∙ h.cells m (omega arith)))
     (λ (d : k ≡ m → ⊥). ap (λ (x : Row). length x.shares) (Rattle.std.proofs.lemmas.List.get_or-set_other f.escrow m k _ no_row d) ∙ h.cells k l)
     (cases_eq k m)

@@ -25,7 +25,7 @@ use Rattle.rules.specs.Day.{traded_today, requirements, finished, dropped, next_
 use Rattle.register.specs.Dropping.{lines_if}
 use Rattle.rules.specs.Events.{is_morning, is_shut}
 use Rattle.rules.specs.Fit.{Shape, Known}
-use Rattle.rules.proofs.Written.{getD_with}
+use Rattle.rules.proofs.Written.{get_or_with}
 use Rattle.rules.proofs.Sums.{sumZ_same, sumZ_zero, positions_with, partZ}
 use Rattle.rules.proofs.Acts.{performed_append}
 use Rattle.rules.proofs.Invariants.{SoundLines, settled_day, Rested}
@@ -85,7 +85,7 @@ module _ (p : Line → Bool) (new : Line → Line) (g : Register) where
       → Rewritten p new g (suc n) (set ls n (new (line g n)))
   rewritten_more n ls l e r = (
     length-set ls n _ ∙ r.0,
-    λ j. getD_with ls n (new (line g n)) no_line (let a = r.0 in omega arith) j ∙
+    λ j. get_or_with ls n (new (line g n)) no_line (let a = r.0 in omega arith) j ∙
         ⊎_elim
         (λ (q : j ≡ n).
         cond-true (eqb j n) _ _ (eq-eqb j n q)

@@ -17,7 +17,7 @@ use Rattle.rules.specs.State.{member, position, in_escrow, today, with_register}
 use Rattle.register.specs.Netting.{due_day, same_key, place_below, place_of, known, line_of, order_price, lower_sale, bought, sold, filed, buyer_key, seller_key, buyer_filed, trade_filed, too_large, trade_too_large}
 use Rattle.rules.specs.Events.{register_traded, position_too_large}
 use Rattle.rules.specs.Fit.{Shape, Known, LineFits, Bounds, weight, full_weight, most_weight, most_due, due_of}
-use Rattle.rules.proofs.Written.{getD_with}
+use Rattle.rules.proofs.Written.{get_or_with}
 use Rattle.rules.proofs.Sums.{part}
 use Rattle.rules.proofs.Acts.{MemberOf, SecurityOf}
 use Rattle.rules.proofs.FitActs.{fits_in, weight_most}
@@ -67,7 +67,7 @@ place_filed g k l =
 -- A line filed under its key.
 module _ (g : Register) (k : Key) (l : Line) (is : l.claim.key ≡ k) (long : place_of g k < length g.lines) where
   line_filed : (i : ℕ) → line (filed g k l) i ≡ cond (eqb i (place_of g k)) l (line g i)
-  line_filed i = getD_with g.lines (place_of g k) l no_line long i
+  line_filed i = get_or_with g.lines (place_of g k) l no_line long i
 
   -- A place of the register is the line's own, or it was one before and stands as it was.
   at_filed : (P : Line → Type 0) (i : ℕ) → i < (filed g k l).count

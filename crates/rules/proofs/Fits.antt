@@ -29,7 +29,7 @@ use Rattle.rules.specs.Day.{traded_today, closings, requirements, cleared_day, e
 use Rattle.rules.specs.Events.{is_morning, is_late, is_shut, unpriced, trade_refusals, netting_refusals, event_refusals, answer, traded, effect}
 use Rattle.rules.specs.Life.{Entry, taken, next}
 use Rattle.rules.specs.Fit.{Shape, MemberFits, Bounds, most_weight, Fit, BoundsKept, most_compensation}
-use Rattle.rules.proofs.Written.{getD_with}
+use Rattle.rules.proofs.Written.{get_or_with}
 use Rattle.rules.proofs.Acts.{OfRun, later_line, all_each, all_map, all_append, all_weaken, all_places_if, performed_keeps, performed_append, run_differences, run_deliveries, run_servings, run_payments, run_payouts, run_repayments, run_passings, run_marks, run_chargings}
 use Rattle.rules.proofs.FitActs.{fits_in, bounds_act, bounds_compensate}
 use Rattle.rules.proofs.FitDay.{bounds_ended}
@@ -253,7 +253,7 @@ bounds_price f ok t p l k = record {
   lines = λ i b. fits_in f (put_close f t p) _ refl refl (ok.lines i b);
   members = ok.members;
   prices = λ u.
-      subst (λ (n : ℕ). n ≤ most_price) (sym (getD_with f.closes t p 0 (let a = o.closes in let b = o.few_securities in omega arith) u))
+      subst (λ (n : ℕ). n ≤ most_price) (sym (get_or_with f.closes t p 0 (let a = o.closes in let b = o.few_securities in omega arith) u))
       (cond_both (eqb u t) p (close f u) (λ (n : ℕ). n ≤ most_price) (λ e. k) (λ e. ok.prices u));
   weights = ok.weights;
   escrow = ok.escrow;
@@ -367,8 +367,8 @@ fit_next rank s x ok =
     (λ e. fit_effect rank s x.event x.space ok (none_applies (event_refusals s x.event x.space) e)) (λ e. ok)
 
 -- An element of a list that repeats one, or the same for a place behind it.
-getD_repeated : {A : Type 0} (n i : ℕ) (a : A) → get_or (replicate n a) i a ≡ a
-getD_repeated n i a = ⊎_elim (λ l. get_or-replicate n i a a l) (λ l. get_or_past (replicate n a) i a (let e = length-replicate n a in omega arith)) (cases_lt i n)
+get_or_repeated : {A : Type 0} (n i : ℕ) (a : A) → get_or (replicate n a) i a ≡ a
+get_or_repeated n i a = ⊎_elim (λ l. get_or-replicate n i a a l) (λ l. get_or_past (replicate n a) i a (let e = length-replicate n a in omega arith)) (cases_lt i n)
 
 -- A row of escrow shares at first, and that nothing is in escrow.
 abbrev empty_row : Row
@@ -377,7 +377,7 @@ empty_row = record { shares = replicate 17 0 }
 no_escrow : (m s i t : ℕ) → in_escrow (opened_figures m s) i t ≡ 0
 no_escrow m s i t =
     ⊎_elim
-    (λ (l : i < 25). ap (λ (r : Row). get_or r.shares t 0) (get_or-replicate 25 i empty_row no_row l) ∙ getD_repeated 17 t 0)
+    (λ (l : i < 25). ap (λ (r : Row). get_or r.shares t 0) (get_or-replicate 25 i empty_row no_row l) ∙ get_or_repeated 17 t 0)
     (λ (l : 25 ≤ i). ap (λ (r : Row). get_or r.shares t 0) (get_or_past (replicate 25 empty_row) i no_row l))
     (cases_lt i 25)
 
@@ -399,7 +399,7 @@ fit_opened m s m₀ m₁ s₀ s₁ = record {
       closes = length-replicate {A = ℕ} 17 0;
     };
     lines = λ i l. absurd (omega arith);
-    members = λ i l. subst MemberFits (sym (getD_repeated 25 i no_member)) (record {
+    members = λ i l. subst MemberFits (sym (get_or_repeated 25 i no_member)) (record {
       charges = omega arith;
       shares = omega arith;
       cash = omega arith;
@@ -407,8 +407,8 @@ fit_opened m s m₀ m₁ s₀ s₁ = record {
       owed = omega arith;
       late = omega arith;
     });
-    prices = λ t. let e : close (opened_figures m s) t ≡ 0 = getD_repeated 17 t 0 in omega arith;
-    weights = λ i l. subst (λ (r : Member). nat_abs r.position + r.advances + 0 ≤ most_weight) (sym (getD_repeated 25 i no_member)) (omega arith);
+    prices = λ t. let e : close (opened_figures m s) t ≡ 0 = get_or_repeated 17 t 0 in omega arith;
+    weights = λ i l. subst (λ (r : Member). nat_abs r.position + r.advances + 0 ≤ most_weight) (sym (get_or_repeated 25 i no_member)) (omega arith);
     escrow = λ i t. let e = no_escrow m s i t in omega arith;
   };
   fails = omega arith;

@@ -1,6 +1,7 @@
 -- A run makes no more movements than the space that it asks for.
 use Rattle.std.proofs.Common.{◌≡◌, ℕ, zero, suc, ◌+◌, ◌*◌, ◌<◌, ◌≤◌, Bool, true, false, cond, ◌&&◌, ltb, leb, List, [], ◌∷◌, ◌++◌, map, length, ℤ, pos, negsuc, ◌+ℤ◌, ◌-ℤ◌, sym, refl, ap, ◌∙◌, subst, ⊎_elim, suc-mul, add_comm, zero-mul, mul-add, arith, length-append}
 use lib.Signed.{lt_z}
+use Rattle.std.proofs.lemmas.List.{length-map}
 use Rattle.std.proofs.lemmas.Int.{ints}
 use Rattle.std.proofs.lemmas.Bool.Decides.{nat_tests}
 use Rattle.std.proofs.lemmas.Bool.{cases_eq, eq-eqb, ne_eqb}
@@ -71,10 +72,6 @@ unfolding Still
 chargings_still s = still_moves s (chargings s) (all_still charge (λ n s. refl) _)
 
 -- Lengths of the lists that the phases go over.
-length-map : {A B : Type 0} (f : A → B) (xs : List A) → length (map f xs) ≡ length xs
-length-map f [] = refl
-length-map f (x ∷ xs) = ap suc (length-map f xs)
-
 length_each : {A B : Type 0} (f : A → List B) (n : ℕ) → ((x : A) → length (f x) ≡ n) → (xs : List A) → length (each f xs) ≡ length xs * n
 length_each f n h [] = sym (zero-mul n)
 length_each f n h (x ∷ xs) =
@@ -89,7 +86,7 @@ length_upto zero = refl
 length_upto (suc n) = let e = length_upto n in let a = length-append (upto n) (n ∷ []) in omega arith
 
 length_from_one : (n : ℕ) → length (from_one n) ≡ n
-length_from_one n = length-map suc (upto n) ∙ length_upto n
+length_from_one n = length-map (upto n) suc ∙ length_upto n
 
 -- The lines that a run orders, counted.
 abbrev counted : (Line → Bool) → Register → ℕ → ℕ
@@ -139,7 +136,7 @@ moves_deliveries rank s =
 moves_servings : (rank : Before) (s : State) → moves s (servings rank s) ≤ counted (receiving s.figures) s.figures.register s.figures.register.count
 moves_servings rank s =
     let m = moves_length s (servings rank s) in
-    let e = length-map serve (in_run rank s.figures (receiving s.figures)) in
+    let e = length-map (in_run rank s.figures (receiving s.figures)) serve in
     let c = length_ordered rank s.figures.register (receiving s.figures) s.figures.register.count in
     omega arith
 
@@ -328,7 +325,7 @@ moves_passings : (s : State) → moves s (passings s) ≤ s.figures.size.members
 moves_passings s =
     let k = s.figures.size.securities in
     let m = moves_length s (passings s) in
-    let e = length_each (passings_of s) k (λ i. length-map (pass i) (all_securities s) ∙ length_from_one k) (all_members s) in
+    let e = length_each (passings_of s) k (λ i. length-map (all_securities s) (pass i) ∙ length_from_one k) (all_members s) in
     let n : length (all_members s) * k ≡ s.figures.size.members * k = ap (λ z. z * k) (length_from_one s.figures.size.members) in
     omega arith
 

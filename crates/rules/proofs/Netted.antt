@@ -17,7 +17,7 @@ use Rattle.register.specs.Lines.{no_line, line, key, in_group, sumZ, sumZ_if, bl
 use Rattle.register.specs.Netting.{due_day, same_key, place_below, place_of, known, line_of, bought, sold, filed, buyer_key, seller_key, buyer_filed}
 use Rattle.rules.specs.Events.{no_such_member, no_such_security, register_traded, traded}
 use Rattle.rules.specs.Fit.{Shape, Known}
-use Rattle.rules.proofs.Written.{getD_with}
+use Rattle.rules.proofs.Written.{get_or_with}
 use Rattle.rules.proofs.Sums.{sumZ_same, sumZ_if_with, partZ}
 use Rattle.rules.proofs.Invariants.{SoundLines, settled_day, Rested}
 use Rattle.rules.proofs.Groups.{none_if, known_like, sided, sided_whole, EvenLines, even_rested, rested_even}
@@ -88,7 +88,7 @@ module _ (g : Register) (k : Key) (n : Line) where
       go false q l = let p = (place_unknown g k q).0 in omega arith
 
   line_filed : place_of g k < length g.lines → (i : ℕ) → line (filed g k n) i ≡ cond (eqb i (place_of g k)) n (line g i)
-  line_filed h i = getD_with g.lines (place_of g k) n no_line h i
+  line_filed h i = get_or_with g.lines (place_of g k) n no_line h i
 
   -- A sum over lines that pass a test: the key's line gives way to the new one.
   sum_filed : (p : Line → Bool) (z : Line → ℤ) → place_of g k < length g.lines → partZ p z (blank k) ≡ pos 0
