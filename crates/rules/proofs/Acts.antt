@@ -1,7 +1,7 @@
 -- The acts of a run: which are its acts, what they leave alone, and what a list of them keeps.
 use Rattle.std.proofs.Common.{◌≡◌, ℕ, zero, suc, ◌<◌, ◌≤◌, Bool, true, false, cond, ◌&&◌, eqb, leb, List, [], ◌∷◌, ◌++◌, map, length, set, sym, refl, ap, ◌∙◌, subst, ⊎_elim, arith, length-set}
 use Rattle.std.proofs.lemmas.Bool.{cases_eq, eq-eqb, ne_eqb, eqb-true}
-use Rattle.std.specs.List.{AllByRecursion as All}
+use Rattle.std.specs.List.{AllByRecursion}
 use Rattle.rank.specs.declared.claim.Claim.{Claim}
 use Rattle.rank.specs.Claims.{is_delivering, is_receiving}
 use Rattle.rank.specs.Order.{insert}
@@ -306,30 +306,30 @@ pub along_append : (P : State → Act → Type 0) (s : State) (k l : List Act) �
 along_append P s [] l p q = q
 along_append P s (a ∷ k) l p q = (p.0, along_append P (after_act s a) k l p.1 q)
 
-pub all_map : {A B : Type 0} (P : B → Type 0) (f : A → B) (xs : List A) → All (λ x. P (f x)) xs → All P (map f xs)
+pub all_map : {A B : Type 0} (P : B → Type 0) (f : A → B) (xs : List A) → AllByRecursion (λ x. P (f x)) xs → AllByRecursion P (map f xs)
 all_map P f [] a = tt
 all_map P f (x ∷ xs) a = (a.0, all_map P f xs a.1)
 
-pub all_weaken : {A : Type 0} (P Q : A → Type 0) (xs : List A) → ((x : A) → P x → Q x) → All P xs → All Q xs
+pub all_weaken : {A : Type 0} (P Q : A → Type 0) (xs : List A) → ((x : A) → P x → Q x) → AllByRecursion P xs → AllByRecursion Q xs
 all_weaken P Q [] f a = tt
 all_weaken P Q (x ∷ xs) f a = (f x a.0, all_weaken P Q xs f a.1)
 
-pub all_append : {A : Type 0} (P : A → Type 0) (xs ys : List A) → All P xs → All P ys → All P (xs ++ ys)
+pub all_append : {A : Type 0} (P : A → Type 0) (xs ys : List A) → AllByRecursion P xs → AllByRecursion P ys → AllByRecursion P (xs ++ ys)
 all_append P [] ys a b = b
 all_append P (x ∷ xs) ys a b = (a.0, all_append P xs ys a.1 b)
 
-pub all_each : {A B : Type 0} (P : B → Type 0) (f : A → List B) (xs : List A) → All (λ x. All P (f x)) xs → All P (each f xs)
+pub all_each : {A B : Type 0} (P : B → Type 0) (f : A → List B) (xs : List A) → AllByRecursion (λ x. AllByRecursion P (f x)) xs → AllByRecursion P (each f xs)
 all_each P f [] a = tt
 all_each P f (x ∷ xs) a = all_append P (f x) (each f xs) a.0 (all_each P f xs a.1)
 
-pub all_of_run : (g e : Figures) → Later g e → (l : List Act) → All (OfRun g) l → All (OfRun e) l
+pub all_of_run : (g e : Figures) → Later g e → (l : List Act) → AllByRecursion (OfRun g) l → AllByRecursion (OfRun e) l
 all_of_run g e h l o = all_weaken (OfRun g) (OfRun e) l (run_later g e h) o
 
 pub shape_performed : (s : State) (l : List Act) → Shape s.figures → Shape (performed s l).figures
 shape_performed s [] h = h
 shape_performed s (a ∷ l) h = shape_performed (after_act s a) l (shape_noted s.figures a (amount s a) h)
 
-pub later_performed : (s : State) (l : List Act) → Shape s.figures → All (OfRun s.figures) l → Later s.figures (performed s l).figures
+pub later_performed : (s : State) (l : List Act) → Shape s.figures → AllByRecursion (OfRun s.figures) l → Later s.figures (performed s l).figures
 later_performed s [] h o = later_same s.figures
 later_performed s (a ∷ l) h o =
     let t = later_noted s.figures a (amount s a) h o.0 in
@@ -337,7 +337,7 @@ later_performed s (a ∷ l) h o =
 
 -- What each act of a run keeps, a list of them keeps; and what holds of each act, holds along the list.
 pub performed_keeps : (Inv : State → Type 0) → ((s : State) (a : Act) → Shape s.figures → OfRun s.figures a → Inv s → Inv (after_act s a))
-    → (s : State) (l : List Act) → Shape s.figures → All (OfRun s.figures) l → Inv s → Inv (performed s l)
+    → (s : State) (l : List Act) → Shape s.figures → AllByRecursion (OfRun s.figures) l → Inv s → Inv (performed s l)
 performed_keeps Inv step s [] h o i = i
 performed_keeps Inv step s (a ∷ l) h o i =
     performed_keeps Inv step (after_act s a) l (shape_noted s.figures a (amount s a) h)
@@ -346,7 +346,7 @@ performed_keeps Inv step s (a ∷ l) h o i =
 pub along_holds : (Inv : State → Type 0) (P : State → Act → Type 0)
     → ((s : State) (a : Act) → Shape s.figures → OfRun s.figures a → Inv s → Inv (after_act s a))
     → ((s : State) (a : Act) → Shape s.figures → OfRun s.figures a → Inv s → P s a)
-    → (s : State) (l : List Act) → Shape s.figures → All (OfRun s.figures) l → Inv s → Along P s l
+    → (s : State) (l : List Act) → Shape s.figures → AllByRecursion (OfRun s.figures) l → Inv s → Along P s l
 along_holds Inv P step holds s [] h o i = tt
 along_holds Inv P step holds s (a ∷ l) h o i = (
   holds s a h o.0 i,
@@ -355,81 +355,81 @@ along_holds Inv P step holds s (a ∷ l) h o i = (
 )
 
 -- The numbers that the phases go over.
-pub all_upto : (P : ℕ → Type 0) (n : ℕ) → ((k : ℕ) → k < n → P k) → All P (upto n)
+pub all_upto : (P : ℕ → Type 0) (n : ℕ) → ((k : ℕ) → k < n → P k) → AllByRecursion P (upto n)
 all_upto P zero f = tt
 all_upto P (suc n) f = all_append P (upto n) (n ∷ []) (all_upto P n (λ k l. f k (omega arith))) (f n (omega arith), tt)
 
-pub all_from_one : (P : ℕ → Type 0) (n : ℕ) → ((k : ℕ) → 0 < k → k ≤ n → P k) → All P (from_one n)
+pub all_from_one : (P : ℕ → Type 0) (n : ℕ) → ((k : ℕ) → 0 < k → k ≤ n → P k) → AllByRecursion P (from_one n)
 all_from_one P n f = all_map P suc (upto n) (all_upto (λ k. P (suc k)) n (λ k l. f (suc k) (omega arith) (omega arith)))
 
-pub all_places_if : (p : Line → Bool) (g : Register) (n : ℕ) → All (λ i. (i < n) × (p (line g i) ≡ true)) (places_if p g n)
+pub all_places_if : (p : Line → Bool) (g : Register) (n : ℕ) → AllByRecursion (λ i. (i < n) × (p (line g i) ≡ true)) (places_if p g n)
 all_places_if p g zero = tt
 all_places_if p g (suc n) =
     all_append _ (places_if p g n) (cond (p (line g n)) (n ∷ []) [])
     (all_weaken (λ i. (i < n) × (p (line g i) ≡ true)) _ (places_if p g n) (λ i o. (let a = o.0 in omega arith, o.1)) (all_places_if p g n))
     (last (p (line g n)) refl)
   where
-    last : (b : Bool) → p (line g n) ≡ b → All (λ i. (i < suc n) × (p (line g i) ≡ true)) (cond b (n ∷ []) [])
+    last : (b : Bool) → p (line g n) ≡ b → AllByRecursion (λ i. (i < suc n) × (p (line g i) ≡ true)) (cond b (n ∷ []) [])
     last true e = ((omega arith, e), tt)
     last false e = tt
 
-all_cond : {A : Type 0} (P : A → Type 0) (b : Bool) (xs ys : List A) → (b ≡ true → All P xs) → (b ≡ false → All P ys) → All P (cond b xs ys)
+all_cond : {A : Type 0} (P : A → Type 0) (b : Bool) (xs ys : List A) → (b ≡ true → AllByRecursion P xs) → (b ≡ false → AllByRecursion P ys) → AllByRecursion P (cond b xs ys)
 all_cond P true xs ys p q = p refl
 all_cond P false xs ys p q = q refl
 
-all_insert : {A : Type 0} (P : A → Type 0) (goes : A → A → Bool) (x : A) (xs : List A) → P x → All P xs → All P (insert goes x xs)
+all_insert : {A : Type 0} (P : A → Type 0) (goes : A → A → Bool) (x : A) (xs : List A) → P x → AllByRecursion P xs → AllByRecursion P (insert goes x xs)
 all_insert P goes x [] p a = (p, tt)
 all_insert P goes x (y ∷ ys) p a =
     all_cond P (goes x y) (x ∷ y ∷ ys) (y ∷ insert goes x ys) (λ e. (p, a)) (λ e. (a.0, all_insert P goes x ys p a.1))
 
-pub all_ordered : (rank : Before) (g : Register) (p : Line → Bool) (n : ℕ) → All (λ i. (i < n) × (p (line g i) ≡ true)) (ordered rank g p n)
+pub all_ordered : (rank : Before) (g : Register) (p : Line → Bool) (n : ℕ) → AllByRecursion (λ i. (i < n) × (p (line g i) ≡ true)) (ordered rank g p n)
 all_ordered rank g p zero = tt
 all_ordered rank g p (suc n) =
     let P : ℕ → Type 0 = λ i. (i < suc n) × (p (line g i) ≡ true) in
-    let rest : All P (ordered rank g p n)
+    let rest : AllByRecursion P (ordered rank g p n)
     = all_weaken (λ i. (i < n) × (p (line g i) ≡ true)) P (ordered rank g p n) (λ i o. (let a = o.0 in omega arith, o.1)) (all_ordered rank g p n) in
     all_cond P (p (line g n)) (insert (λ i j. goes_before rank (line g i) (line g j)) n (ordered rank g p n)) (ordered rank g p n)
     (λ e. all_insert P (λ i j. goes_before rank (line g i) (line g j)) n (ordered rank g p n) (omega arith, e) rest) (λ e. rest)
 
 -- Each phase lists acts of a run.
-pub run_differences : (s : State) → All (OfRun s.figures) (differences s)
+pub run_differences : (s : State) → AllByRecursion (OfRun s.figures) (differences s)
 run_differences s =
     all_map (OfRun s.figures) settle _
     (all_weaken _ _ (due_today s.figures) (λ i o. (o.0, eqb-true _ _ o.1)) (all_places_if (λ l. eqb l.claim.key.due (today s.figures)) s.figures.register s.figures.register.count))
 
-pub run_deliveries : (rank : Before) (s : State) → All (OfRun s.figures) (deliveries rank s)
+pub run_deliveries : (rank : Before) (s : State) → AllByRecursion (OfRun s.figures) (deliveries rank s)
 run_deliveries rank s =
     all_each (OfRun s.figures) deliveries_of (in_run rank s.figures (delivering s.figures))
-    (all_weaken _ (λ i. All (OfRun s.figures) (deliveries_of i)) (in_run rank s.figures (delivering s.figures)) (λ i o. (o, (o, tt)))
+    (all_weaken _ (λ i. AllByRecursion (OfRun s.figures) (deliveries_of i)) (in_run rank s.figures (delivering s.figures)) (λ i o. (o, (o, tt)))
     (all_ordered rank s.figures.register (delivering s.figures) s.figures.register.count))
 
-pub run_servings : (rank : Before) (s : State) → All (OfRun s.figures) (servings rank s)
+pub run_servings : (rank : Before) (s : State) → AllByRecursion (OfRun s.figures) (servings rank s)
 run_servings rank s =
     all_map (OfRun s.figures) serve (in_run rank s.figures (receiving s.figures))
     (all_ordered rank s.figures.register (receiving s.figures) s.figures.register.count)
 
-all_of_members : (s : State) (P : ℕ → Type 0) → ((m : ℕ) → MemberOf s.figures m → P m) → All P (all_members s)
+all_of_members : (s : State) (P : ℕ → Type 0) → ((m : ℕ) → MemberOf s.figures m → P m) → AllByRecursion P (all_members s)
 all_of_members s P f = all_from_one P s.figures.size.members (λ m a b. f m (a, b))
 
-pub run_payments : (s : State) → All (OfRun s.figures) (payments s)
-run_payments s = all_each (OfRun s.figures) payments_of (all_members s) (all_of_members s (λ m. All (OfRun s.figures) (payments_of m)) (λ m o. (o, (o, (o, (o, tt))))))
+pub run_payments : (s : State) → AllByRecursion (OfRun s.figures) (payments s)
+run_payments s = all_each (OfRun s.figures) payments_of (all_members s) (all_of_members s (λ m. AllByRecursion (OfRun s.figures) (payments_of m)) (λ m o. (o, (o, (o, (o, tt))))))
 
-pub run_payouts : (s : State) → All (OfRun s.figures) (payouts s)
+pub run_payouts : (s : State) → AllByRecursion (OfRun s.figures) (payouts s)
 run_payouts s = all_map (OfRun s.figures) (λ m. pay_out m (share s m)) (all_members s) (all_of_members s _ (λ m o. o))
 
-pub run_repayments : (s : State) → All (OfRun s.figures) (repayments s)
-run_repayments s = all_each (OfRun s.figures) repayments_of (all_members s) (all_of_members s (λ m. All (OfRun s.figures) (repayments_of m)) (λ m o. (o, (o, tt))))
+pub run_repayments : (s : State) → AllByRecursion (OfRun s.figures) (repayments s)
+run_repayments s = all_each (OfRun s.figures) repayments_of (all_members s) (all_of_members s (λ m. AllByRecursion (OfRun s.figures) (repayments_of m)) (λ m o. (o, (o, tt))))
 
-pub run_passings : (s : State) → All (OfRun s.figures) (passings s)
+pub run_passings : (s : State) → AllByRecursion (OfRun s.figures) (passings s)
 run_passings s =
-    all_each (OfRun s.figures) (passings_of s) (all_members s) (all_of_members s (λ m. All (OfRun s.figures) (passings_of s m)) (λ m o.
+    all_each (OfRun s.figures) (passings_of s) (all_members s) (all_of_members s (λ m. AllByRecursion (OfRun s.figures) (passings_of s m)) (λ m o.
     all_map (OfRun s.figures) (pass m) (all_securities s) (all_from_one _ s.figures.size.securities (λ t a b. (o, (a, b))))))
 
-pub run_marks : (s : State) → All (OfRun s.figures) (marks s)
+pub run_marks : (s : State) → AllByRecursion (OfRun s.figures) (marks s)
 run_marks s =
     all_append (OfRun s.figures) (map mark_line (all_places s)) (map mark (all_members s))
     (all_map (OfRun s.figures) mark_line (all_places s) (all_upto _ s.figures.register.count (λ i l. (l, tt))))
     (all_map (OfRun s.figures) mark (all_members s) (all_of_members s _ (λ m o. o)))
 
-pub run_chargings : (s : State) → All (OfRun s.figures) (chargings s)
+pub run_chargings : (s : State) → AllByRecursion (OfRun s.figures) (chargings s)
 run_chargings s = all_map (OfRun s.figures) charge (all_members s) (all_of_members s _ (λ m o. o))

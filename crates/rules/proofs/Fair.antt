@@ -1,7 +1,7 @@
 -- Who is served and who is passed shares, and that servings leave nothing in hand.
 use Rattle.std.proofs.Common.{◌≡◌, ℕ, ◌+◌, ◌-◌, ◌<◌, ◌≤◌, min, Bool, true, false, cond, ◌&&◌, eqb, ltb, leb, ◌⊎◌, List, [], ◌∷◌, map, length, get_or, ℤ, pos, sym, refl, ap, ◌∙◌, subst, inl, inr, ⊎_elim, arith}
 use lib.Signed.{lt_z}
-use Rattle.std.specs.List.{AllByRecursion as All}
+use Rattle.std.specs.List.{AllByRecursion}
 use Rattle.std.proofs.lemmas.List.{get_or-set_same, get_or-set_other}
 use Rattle.std.proofs.lemmas.Int.{ints}
 use Rattle.std.proofs.lemmas.Bool.{both_ways, cases_Bool, cases_eq, cases_lt, eqb-true, eq-eqb, leb-true, le-leb, and_parts, and_from, cond_both}
@@ -132,7 +132,7 @@ serve_open day s i js h o before j b r =
 -- What each serving of a list keeps.
 serves_keep : (Inv : List ℕ → State → Type 0)
     → ((s : State) (i : ℕ) (js : List ℕ) → Shape s.figures → OfRun s.figures (serve i) → Inv (i ∷ js) s → Inv js (after_act s (serve i)))
-    → (s : State) (js : List ℕ) → Shape s.figures → All (OfRun s.figures) (map serve js) → Inv js s → Inv [] (performed s (map serve js))
+    → (s : State) (js : List ℕ) → Shape s.figures → AllByRecursion (OfRun s.figures) (map serve js) → Inv js s → Inv [] (performed s (map serve js))
 serves_keep Inv step s [] h o i = i
 serves_keep Inv step s (j ∷ js) h o i =
     serves_keep Inv step (after_act s (serve j)) js (shape_noted s.figures (serve j) (amount s (serve j)) h)
@@ -225,7 +225,7 @@ module _ (rank : Before) (law : (p : ℕ) → Lawful (rank p)) (s : State) (soun
 
   -- A line is served when those that go ahead of it have no rest: of the lines to come none goes before it.
   serve_fair : (g : State) (i : ℕ) (js : List ℕ) → Later s.figures g.figures → due_at i
-      → All (λ j. place_goes rank s.figures.register j i ≡ false) js → Open (today s.figures) g (i ∷ js) → FairAct rank g g (serve i)
+      → AllByRecursion (λ j. place_goes rank s.figures.register j i ≡ false) js → Open (today s.figures) g (i ∷ js) → FairAct rank g g (serve i)
   serve_fair g i js l o behind before x j b a =
       let at = line s.figures.register in
       let now = line g.figures.register in
@@ -247,7 +247,7 @@ module _ (rank : Before) (law : (p : ℕ) → Lawful (rank p)) (s : State) (soun
       (before j b (and_from (receives (now j)) (due_by (today s.figures) (now j)) now_ahead.receives_too
       (subst (λ (c : Claim). leb c.key.due (today s.figures) ≡ true) (sym (l.claim j)) (le-leb (key s.figures.register j).due (today s.figures) by_today))))
 
-  serves_fair : (g : State) (js : List ℕ) → Shape g.figures → Later s.figures g.figures → All (OfRun s.figures) (map serve js)
+  serves_fair : (g : State) (js : List ℕ) → Shape g.figures → Later s.figures g.figures → AllByRecursion (OfRun s.figures) (map serve js)
       → InTurn (place_goes rank s.figures.register) js → Open (today s.figures) g js → Along (λ g a. FairAct rank g g a) g (map serve js)
   serves_fair g [] h l o turn before = tt
   serves_fair g (i ∷ js) h l o turn before =
@@ -421,20 +421,20 @@ Quiet a = (rank : Before) (g s : State) → FairAct rank g s a
 
 -- What lists of phases keep.
 abbrev RunPhase : PhaseActs → Type 0
-RunPhase p = (s : State) → All (OfRun s.figures) (p s)
+RunPhase p = (s : State) → AllByRecursion (OfRun s.figures) (p s)
 
 abbrev PhaseAll : (Act → Type 0) → PhaseActs → Type 0
-PhaseAll P p = (s : State) → All P (p s)
+PhaseAll P p = (s : State) → AllByRecursion P (p s)
 
 module _ (R : Figures → Figures → Type 0) (same : (f : Figures) → R f f) (on : (f g e : Figures) → R f g → R g e → R f e) where
-  kept_performed : (s : State) (l : List Act) → Shape s.figures → All (OfRun s.figures) l → All (Keeps R) l → R s.figures (performed s l).figures
+  kept_performed : (s : State) (l : List Act) → Shape s.figures → AllByRecursion (OfRun s.figures) l → AllByRecursion (Keeps R) l → R s.figures (performed s l).figures
   kept_performed s [] h o k = same s.figures
   kept_performed s (a ∷ l) h o k =
       on _ _ _ (k.0 s.figures (amount s a) h o.0)
       (kept_performed (after_act s a) l (shape_noted s.figures a (amount s a) h)
       (all_of_run _ _ (later_noted s.figures a (amount s a) h o.0) l o.1) k.1)
 
-  kept_phases : (ps : List PhaseActs) → All RunPhase ps → All (PhaseAll (Keeps R)) ps → (s : State) → Shape s.figures
+  kept_phases : (ps : List PhaseActs) → AllByRecursion RunPhase ps → AllByRecursion (PhaseAll (Keeps R)) ps → (s : State) → Shape s.figures
       → R s.figures (performed s (in_phases ps s)).figures
   kept_phases [] o k s h = same s.figures
   kept_phases (p ∷ ps) o k s h =
@@ -442,11 +442,11 @@ module _ (R : Figures → Figures → Type 0) (same : (f : Figures) → R f f) (
       (on _ _ _ (kept_performed s (p s) h (o.0 s) (k.0 s))
       (kept_phases ps o.1 k.1 (performed s (p s)) (shape_performed s (p s) h)))
 
-all_any : {A : Type 0} (P : A → Type 0) → ((x : A) → P x) → (xs : List A) → All P xs
+all_any : {A : Type 0} (P : A → Type 0) → ((x : A) → P x) → (xs : List A) → AllByRecursion P xs
 all_any P f [] = tt
 all_any P f (x ∷ xs) = (f x, all_any P f xs)
 
-later_phases : (ps : List PhaseActs) → All RunPhase ps → (s : State) → Shape s.figures → Later s.figures (performed s (in_phases ps s)).figures
+later_phases : (ps : List PhaseActs) → AllByRecursion RunPhase ps → (s : State) → Shape s.figures → Later s.figures (performed s (in_phases ps s)).figures
 later_phases ps o s h =
     kept_phases Later later_same later_trans ps o
     (all_any (PhaseAll (Keeps Later)) (λ p g. all_any (Keeps Later) (λ a f x h o. later_noted f a x h o) (p g)) ps) s h
@@ -458,23 +458,23 @@ every_difference P f s = all_map P settle (due_today s.figures) (all_any (λ i. 
 every_delivery : (P : Act → Type 0) → ((i : ℕ) → P (give i)) → ((i : ℕ) → P (give_escrow i)) → (rank : Before) → PhaseAll P (deliveries rank)
 every_delivery P f g rank s =
     let js = in_run rank s.figures (delivering s.figures) in
-    all_each P deliveries_of js (all_any (λ i. All P (deliveries_of i)) (λ i. (f i, (g i, tt))) js)
+    all_each P deliveries_of js (all_any (λ i. AllByRecursion P (deliveries_of i)) (λ i. (f i, (g i, tt))) js)
 
 every_payment : (P : Act → Type 0) → ((m : ℕ) (from : Source) → P (pay m from)) → PhaseAll P payments
 every_payment P f s =
     all_each P payments_of (all_members s)
-    (all_any (λ m. All P (payments_of m)) (λ m. (f m own, (f m from_collateral, (f m from_contribution, (f m from_reserve, tt))))) (all_members s))
+    (all_any (λ m. AllByRecursion P (payments_of m)) (λ m. (f m own, (f m from_collateral, (f m from_contribution, (f m from_reserve, tt))))) (all_members s))
 
 every_payout : (P : Act → Type 0) → ((m n : ℕ) → P (pay_out m n)) → PhaseAll P payouts
 every_payout P f s = all_map P (λ m. pay_out m (share s m)) (all_members s) (all_any (λ m. P (pay_out m (share s m))) (λ m. f m (share s m)) (all_members s))
 
 every_repayment : (P : Act → Type 0) → ((m : ℕ) → P (repay m)) → ((m : ℕ) → P (pay_charges m)) → PhaseAll P repayments
 every_repayment P f g s =
-    all_each P repayments_of (all_members s) (all_any (λ m. All P (repayments_of m)) (λ m. (f m, (g m, tt))) (all_members s))
+    all_each P repayments_of (all_members s) (all_any (λ m. AllByRecursion P (repayments_of m)) (λ m. (f m, (g m, tt))) (all_members s))
 
 every_pass : (P : Act → Type 0) → ((m t : ℕ) → P (pass m t)) → PhaseAll P passings
 every_pass P f s =
-    all_each P (passings_of s) (all_members s) (all_any (λ m. All P (passings_of s m))
+    all_each P (passings_of s) (all_members s) (all_any (λ m. AllByRecursion P (passings_of s m))
     (λ m. all_map P (pass m) (all_securities s) (all_any (λ t. P (pass m t)) (f m) (all_securities s))) (all_members s))
 
 every_mark : (P : Act → Type 0) → ((i : ℕ) → P (mark_line i)) → ((m : ℕ) → P (mark m)) → PhaseAll P marks
@@ -489,11 +489,11 @@ every_charge P f s = all_map P charge (all_members s) (all_any (λ m. P (charge 
 abbrev after_servings : List PhaseActs → List PhaseActs
 after_servings last = payments ∷ payouts ∷ repayments ∷ passings ∷ last
 
-run_after : (last : List PhaseActs) → All RunPhase last → All RunPhase (after_servings last)
+run_after : (last : List PhaseActs) → AllByRecursion RunPhase last → AllByRecursion RunPhase (after_servings last)
 run_after last o = (run_payments, (run_payouts, (run_repayments, (run_passings, o))))
 
 -- They change no rest.
-rests_after : (last : List PhaseActs) → All (PhaseAll (Keeps SameRests)) last → All (PhaseAll (Keeps SameRests)) (after_servings last)
+rests_after : (last : List PhaseActs) → AllByRecursion (PhaseAll (Keeps SameRests)) last → AllByRecursion (PhaseAll (Keeps SameRests)) (after_servings last)
 rests_after last k = (
   every_payment (Keeps SameRests) (λ m from f x h o j. refl),
   (
@@ -507,10 +507,10 @@ rests_after last k = (
 
 -- What closes a run: acts of a run that serve and pass nothing and change no rest, position or advance.
 record Closing (last : List PhaseActs) : Type 0 where
-  runs : All RunPhase last
-  quiet : All (PhaseAll Quiet) last
-  rests : All (PhaseAll (Keeps SameRests)) last
-  debts : All (PhaseAll (Keeps SameDebts)) last
+  runs : AllByRecursion RunPhase last
+  quiet : AllByRecursion (PhaseAll Quiet) last
+  rests : AllByRecursion (PhaseAll (Keeps SameRests)) last
+  debts : AllByRecursion (PhaseAll (Keeps SameDebts)) last
 
 marks_close : Closing (marks ∷ [])
 marks_close = record {
@@ -579,14 +579,14 @@ module _ (rank : Before) (W V : State → Type 0) (p : PhaseActs) (ps : List Pha
   fair_quiet : PhaseAll Quiet p → FairRun rank W (p ∷ ps)
   fair_quiet q = fair_phase (λ s e w z. quiet_fair e s (p s) (q s))
     where
-      quiet_fair : (e s : State) (l : List Act) → All Quiet l → Along (FairBoth rank e) s l
+      quiet_fair : (e s : State) (l : List Act) → AllByRecursion Quiet l → Along (FairBoth rank e) s l
       quiet_fair e s [] q = tt
       quiet_fair e s (a ∷ l) q = ((q.0 rank s s, q.0 rank e s), quiet_fair e (after_act s a) l q.1)
 
 shape_next : (p : PhaseActs) (s : State) → Shaped s → Shaped (performed s (p s))
 shape_next p s h = shape_performed s (p s) h
 
-fair_closing : (rank : Before) (ps : List PhaseActs) → All (PhaseAll Quiet) ps → FairRun rank Shaped ps
+fair_closing : (rank : Before) (ps : List PhaseActs) → AllByRecursion (PhaseAll Quiet) ps → FairRun rank Shaped ps
 fair_closing rank [] q = λ s e h z. tt
 fair_closing rank (p ∷ ps) q = fair_quiet rank Shaped Shaped p ps (shape_next p) (fair_closing rank ps q.1) q.0
 
@@ -608,7 +608,7 @@ fair_after_servings rank last c =
     (every_payment Quiet (λ m from rank g s. tt))
 
 -- Servings that are in order in the states that they find are so at the end.
-serves_both : (rank : Before) (s e : State) (js : List ℕ) → Shape s.figures → All (OfRun s.figures) (map serve js)
+serves_both : (rank : Before) (s e : State) (js : List ℕ) → Shape s.figures → AllByRecursion (OfRun s.figures) (map serve js)
     → Lowered (performed s (map serve js)).figures e.figures → Along (λ g a. FairAct rank g g a) s (map serve js) → Along (FairBoth rank e) s (map serve js)
 serves_both rank s e [] h o l fair = tt
 serves_both rank s e (i ∷ js) h o l fair = (

@@ -1,7 +1,7 @@
 -- The bounds of the figures, kept over the end of a day.
 use Rattle.std.proofs.Common.{◌≡◌, ℕ, zero, suc, ◌+◌, ◌-◌, ◌*◌, ◌<◌, ◌≤◌, Bool, true, false, cond, not, ◌&&◌, eqb, ltb, List, [], ◌∷◌, ◌++◌, map, length, get_or, ℤ, pos, ◌-ℤ◌, ◌*ℤ◌, nat_abs, sym, refl, ap, ◌∙◌, subst, ⊎_elim, mul-le-mul_right, mul-le-mul_left, arith, length-append, length-set}
 use lib.ListN.{length-replicate}
-use Rattle.std.specs.List.{AllByRecursion as All}
+use Rattle.std.specs.List.{AllByRecursion}
 use Rattle.std.proofs.lemmas.List.{map-append, append-nil, get_or_append_left, get_or_push, length_push}
 use Rattle.std.proofs.ByRecursion.{All-get_or}
 use Rattle.std.proofs.lemmas.Bool.Decides.{nat_tests}
@@ -212,11 +212,11 @@ close_known f e i l t =
     some x n = omega arith
 
 -- The lines that are kept: they are lines of the register, no more of them, and their sums no larger.
-all_lines_if : (P : Line → Type 0) (p : Line → Bool) (g : Register) (n : ℕ) → ((i : ℕ) → i < n → P (line g i)) → All P (lines_if p g n)
+all_lines_if : (P : Line → Type 0) (p : Line → Bool) (g : Register) (n : ℕ) → ((i : ℕ) → i < n → P (line g i)) → AllByRecursion P (lines_if p g n)
 all_lines_if P p g zero h = tt
 all_lines_if P p g (suc n) h =
     all_append P (lines_if p g n) _ (all_lines_if P p g n (λ i l. h i (omega arith)))
-    (cond_both (p (line g n)) (line g n ∷ []) [] (All P) (λ e. (h n (omega arith), tt)) (λ e. tt))
+    (cond_both (p (line g n)) (line g n ∷ []) [] (AllByRecursion P) (λ e. (h n (omega arith), tt)) (λ e. tt))
 
 sum_lines_if : (w : Line → ℕ) (p : Line → Bool) (g : Register) (n : ℕ)
     → sum_to (length (lines_if p g n)) (λ i. w (get_or (lines_if p g n) i no_line)) ≤ sum_to n (λ i. w (line g i))
@@ -343,7 +343,7 @@ module _ (f : Figures) (ok : Bounds f) (room : today f < last_day) (priced : unp
       (record { shape = shape_morning; lines = fits_morning; members = ok.members; prices = ok.prices; weights = weights_morning; escrow = escrow_morning })
 
 -- Requirements look at no clock: the bounds of the next morning are kept while they are set.
-bounds_required : (s : State) (ms : List ℕ) → All (λ m. m < 25) ms → Bounds (next_morning s.figures) → Bounds (next_morning (performed s (map require ms)).figures)
+bounds_required : (s : State) (ms : List ℕ) → AllByRecursion (λ m. m < 25) ms → Bounds (next_morning s.figures) → Bounds (next_morning (performed s (map require ms)).figures)
 bounds_required s [] h ok = ok
 bounds_required s (m ∷ ms) h ok = bounds_required (after_act s (require m)) ms h.1 (bounds_require (next_morning s.figures) ok m h.0 0)
 

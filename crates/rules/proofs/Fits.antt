@@ -1,7 +1,7 @@
 -- The bounds of the figures, kept by every event.
 use Rattle.std.proofs.Common.{◌≡◌, ℕ, zero, suc, ◌+◌, ◌-◌, ◌*◌, ◌<◌, ◌≤◌, Bool, true, false, cond, not, eqb, leb, List, [], ◌∷◌, ◌++◌, map, length, get_or, replicate, nat_abs, sym, refl, ap, ◌∙◌, subst, ⊎_elim, arith, length-set}
 use lib.ListN.{length-replicate, length-map}
-use Rattle.std.specs.List.{AllByRecursion as All}
+use Rattle.std.specs.List.{AllByRecursion}
 use Rattle.std.proofs.lemmas.List.{get_or-replicate, get_or_past, length_push}
 use Rattle.std.proofs.lemmas.Bool.{cases_lt, cases_Bool, eqb-true, ltb-true, ltb-false, leb-true, leb-false, and_parts, or_parts, not-false, cond_both, cond-true, cond-false, both_ways}
 use Rattle.book.specs.Refusals.{Refusal}
@@ -37,15 +37,15 @@ use Rattle.rules.proofs.FitNetting.{bounds_traded}
 
 -- A phase whose acts are acts of a run, from whatever state.
 abbrev PhaseOfRun : PhaseActs → Type 0
-PhaseOfRun p = (s : State) → All (OfRun s.figures) (p s)
+PhaseOfRun p = (s : State) → AllByRecursion (OfRun s.figures) (p s)
 
-bounds_phases : (ps : List PhaseActs) → All PhaseOfRun ps → (s : State) → Bounds s.figures → Bounds (performed s (in_phases ps s)).figures
+bounds_phases : (ps : List PhaseActs) → AllByRecursion PhaseOfRun ps → (s : State) → Bounds s.figures → Bounds (performed s (in_phases ps s)).figures
 bounds_phases [] h s ok = ok
 bounds_phases (p ∷ ps) h s ok =
     subst (λ (t : State). Bounds t.figures) (sym (performed_append s (p s) _))
     (bounds_phases ps h.1 (performed s (p s)) (performed_keeps (λ t. Bounds t.figures) bounds_act s (p s) ok.shape (h.0 s) ok))
 
-steps_of_run : (rank : Before) (last : List PhaseActs) → All PhaseOfRun last → All PhaseOfRun (steps rank last)
+steps_of_run : (rank : Before) (last : List PhaseActs) → AllByRecursion PhaseOfRun last → AllByRecursion PhaseOfRun (steps rank last)
 steps_of_run rank last h = (run_deliveries rank, (run_servings rank, (run_payments, (run_payouts, (run_repayments, (run_passings, h))))))
 
 -- An act that counts no fail.
@@ -53,9 +53,9 @@ abbrev Quiet : Act → Type 0
 Quiet a = (f : Figures) (x : ℕ) → (noted f a x).fails ≡ f.fails
 
 abbrev QuietPhase : PhaseActs → Type 0
-QuietPhase p = (s : State) → All Quiet (p s)
+QuietPhase p = (s : State) → AllByRecursion Quiet (p s)
 
-all_any : {A : Type 0} (P : A → Type 0) (xs : List A) → ((x : A) → P x) → All P xs
+all_any : {A : Type 0} (P : A → Type 0) (xs : List A) → ((x : A) → P x) → AllByRecursion P xs
 all_any P [] h = tt
 all_any P (x ∷ xs) h = (h x, all_any P xs h)
 
@@ -82,19 +82,19 @@ quiet_marks s =
     all_append Quiet (map mark_line (all_places s)) (map mark (all_members s))
     (all_map Quiet mark_line _ (all_any _ (all_places s) (λ i f x. refl))) (all_map Quiet mark _ (all_any _ (all_members s) (λ m f x. refl)))
 
-quiet_steps : (rank : Before) (last : List PhaseActs) → All QuietPhase last → All QuietPhase (steps rank last)
+quiet_steps : (rank : Before) (last : List PhaseActs) → AllByRecursion QuietPhase last → AllByRecursion QuietPhase (steps rank last)
 quiet_steps rank last h = (quiet_deliveries rank, (quiet_servings rank, (quiet_payments, (quiet_payouts, (quiet_repayments, (quiet_passings, h))))))
 
-fails_performed : (s : State) (l : List Act) → All Quiet l → (performed s l).figures.fails ≡ s.figures.fails
+fails_performed : (s : State) (l : List Act) → AllByRecursion Quiet l → (performed s l).figures.fails ≡ s.figures.fails
 fails_performed s [] h = refl
 fails_performed s (a ∷ l) h = fails_performed (after_act s a) l h.1 ∙ h.0 s.figures (amount s a)
 
-fails_phases : (ps : List PhaseActs) → All QuietPhase ps → (s : State) → (performed s (in_phases ps s)).figures.fails ≡ s.figures.fails
+fails_phases : (ps : List PhaseActs) → AllByRecursion QuietPhase ps → (s : State) → (performed s (in_phases ps s)).figures.fails ≡ s.figures.fails
 fails_phases [] h s = refl
 fails_phases (p ∷ ps) h s =
     ap (λ (t : State). t.figures.fails) (performed_append s (p s) _) ∙ (fails_phases ps h.1 (performed s (p s)) ∙ fails_performed s (p s) (h.0 s))
 
-quiet_noon : (rank : Before) → All QuietPhase (noon_run rank)
+quiet_noon : (rank : Before) → AllByRecursion QuietPhase (noon_run rank)
 quiet_noon rank =
     ((λ s. all_map Quiet settle _ (all_any _ (due_today s.figures) (λ i f x. refl))), quiet_steps rank (marks ∷ []) (quiet_marks, tt))
 
@@ -264,7 +264,7 @@ bounds_price f ok t p l k = record {
 
 -- Cash settlement of places whose lines are due by today.
 bounds_compensations : (s : State) (c : ℕ) (is : List ℕ) → c ≤ most_compensation
-    → All (λ i. (i < s.figures.register.count) × ((key s.figures.register i).due ≤ today s.figures)) is
+    → AllByRecursion (λ i. (i < s.figures.register.count) × ((key s.figures.register i).due ≤ today s.figures)) is
     → Bounds s.figures → Bounds (performed s (map (λ i. compensate i c) is)).figures
 bounds_compensations s c [] l h ok = ok
 bounds_compensations s c (i ∷ is) l h ok =
@@ -315,7 +315,7 @@ refused_by UnfitBook = refl
 refused_by BadCounts = refl
 refused_by (Book x) = refl
 
-pub none_applies : (rs : List (Refusal HouseFault)) → is_accepted (answer_by rs) ≡ true → All (λ (r : Refusal HouseFault). r.applies ≡ false) rs
+pub none_applies : (rs : List (Refusal HouseFault)) → is_accepted (answer_by rs) ≡ true → AllByRecursion (λ (r : Refusal HouseFault). r.applies ≡ false) rs
 none_applies [] e = tt
 none_applies (r ∷ rs) e =
     ⊎_elim
@@ -327,7 +327,7 @@ in_range : (most n : ℕ) → not (from_one_to most n) ≡ false → (0 < n) × 
 in_range most n e = let a = and_parts _ _ (not-false _ e) in (ltb-true _ _ a.0, leb-true _ _ a.1)
 
 abbrev None : List (Refusal HouseFault) → Type 0
-None rs = All (λ (r : Refusal HouseFault). r.applies ≡ false) rs
+None rs = AllByRecursion (λ (r : Refusal HouseFault). r.applies ≡ false) rs
 
 -- A trade: as such it is sound, and the netting refuses nothing.
 fit_traded : (s : State) (t : Trade) → Fit s.figures → None (trade_refusals s.figures t []) → None (netting_refusals s.figures t) → Fit (traded s t).figures

@@ -4,7 +4,7 @@ use lib.ListN.{length-replicate}
 use Rattle.std.proofs.lemmas.List.{get_or-replicate, get_or_past}
 use Rattle.std.proofs.lemmas.Bool.Decides.{nat_tests}
 use Rattle.std.proofs.lemmas.Bool.{cases_eq, cases_lt, eq-eqb, ne_eqb, eqb-true, eqb-false, leb-true, leb-false, ltb-false, not-false, both_ways, and_parts, cond-true, cond-false, cond_both}
-use Rattle.std.specs.List.{AllByRecursion as All}
+use Rattle.std.specs.List.{AllByRecursion}
 use Rattle.book.specs.Ledger.{Ledger, Balances, sum_to, total, with_held, most_amount}
 use Rattle.book.specs.Movement.{Movement, Put, Pull, Move, movement_number, after}
 use Rattle.book.specs.Laws.{put_in, taken_out}
@@ -121,7 +121,7 @@ refusal_refuses UnfitBook = refl
 refusal_refuses BadCounts = refl
 refusal_refuses (Book f) = refl
 
-none_applied : (rs : List (Refusal HouseFault)) → is_accepted (answer_by rs) ≡ true → All (λ (r : Refusal HouseFault). r.applies ≡ false) rs
+none_applied : (rs : List (Refusal HouseFault)) → is_accepted (answer_by rs) ≡ true → AllByRecursion (λ (r : Refusal HouseFault). r.applies ≡ false) rs
 none_applied [] e = tt
 none_applied (r ∷ rs) e = let p = go r.applies e in (p.0, none_applied rs p.1)
   where
@@ -157,7 +157,7 @@ module _ (s : State) (w : Working s) (space : ℕ) where
   taken_contribute m n e = let a = w.accounts in let b = w.assets in grind (arith, nat_tests)
 
   -- Each event's own movement, if it asks for one, is taken by the book that shows the state.
-  movements_taken : (e : Event) → is_accepted (answer s e space) ≡ true → All (λ m. movement_number (book_of s space) m ≡ 0) (asked e)
+  movements_taken : (e : Event) → is_accepted (answer s e space) ≡ true → AllByRecursion (λ m. movement_number (book_of s space) m ≡ 0) (asked e)
   movements_taken (Bring m t n) a = (taken_bring m t n a, tt)
   movements_taken (Take m t n) a = (taken_take m t n a, tt)
   movements_taken (Endow n) a = (taken_endow n a, tt)
@@ -176,7 +176,7 @@ module _ (s : State) (w : Working s) (space : ℕ) where
 pub asked_taken : (s : State) (space : ℕ) (e : Event) → Working s → is_accepted (answer s e space) ≡ true → AskedTaken s space (asked e)
 asked_taken s space e w a = go (asked e) (movements_taken s w space e a)
   where
-    go : (ms : List Movement) → All (λ m. movement_number (book_of s space) m ≡ 0) ms → AskedTaken s space ms
+    go : (ms : List Movement) → AllByRecursion (λ m. movement_number (book_of s space) m ≡ 0) ms → AskedTaken s space ms
     go [] h = tt
     go (m ∷ ms) h = ((λ b sound shows e. subst (λ (q : Ledger). movement_number q m ≡ 0) (shown b s space shows e) h.0), go ms h.1)
 
@@ -210,7 +210,7 @@ Behind (Put a t n) = 1 < a
 Behind (Pull a t n) = 1 < a
 Behind (Move a c t n) = (1 < a) × (1 < c)
 
-behind_asked : (s : State) (space : ℕ) (e : Event) → is_accepted (answer s e space) ≡ true → All Behind (asked e)
+behind_asked : (s : State) (space : ℕ) (e : Event) → is_accepted (answer s e space) ≡ true → AllByRecursion Behind (asked e)
 behind_asked s space (Bring m t n) a = (grind (arith, nat_tests), tt)
 behind_asked s space (Take m t n) a = (grind (arith, nat_tests), tt)
 behind_asked s space (Endow n) a = (omega arith, tt)
@@ -275,7 +275,7 @@ asked_few (CashSettle due t highest risk) = omega arith
 pub rested_asked : (s : State) (space : ℕ) (e : Event) → is_accepted (answer s e space) ≡ true → Rested s → Rested (balances_asked s e)
 rested_asked s space e a r = go (asked e) (asked_few e) (behind_asked s space e a) (movements_taken s r.works space e a)
   where
-    go : (ms : List Movement) → length ms ≤ 1 → All Behind ms → All (λ m. movement_number (book_of s space) m ≡ 0) ms → Rested (with_balances s (after_all s.held ms))
+    go : (ms : List Movement) → length ms ≤ 1 → AllByRecursion Behind ms → AllByRecursion (λ m. movement_number (book_of s space) m ≡ 0) ms → Rested (with_balances s (after_all s.held ms))
     go [] l b t = r
     go (m ∷ []) l b t = rested_moved s space m b.0 t.0 r
     go (m ∷ k ∷ ms) l b t = absurd (omega arith)
@@ -304,7 +304,7 @@ Changes s s' e t = total_of s' t + asked_sum taken_out (asked e) t ≡ total_of 
 total_asked : (s : State) (space : ℕ) (e : Event) → Working s → is_accepted (answer s e space) ≡ true → (t : ℕ) → Changes s (balances_asked s e) e t
 total_asked s space e w a t = go (asked e) (movements_taken s w space e a) (asked_few e)
   where
-    go : (ms : List Movement) → All (λ m. movement_number (book_of s space) m ≡ 0) ms → length ms ≤ 1
+    go : (ms : List Movement) → AllByRecursion (λ m. movement_number (book_of s space) m ≡ 0) ms → length ms ≤ 1
         → sum_to s.accounts (λ x. after_all s.held ms x t) + asked_sum taken_out ms t ≡ total_of s t + asked_sum put_in ms t
     go [] h l = refl
     go (m ∷ []) h l = let f = total_of_accepted (book_of s space) m h.0 t in omega arith
@@ -413,9 +413,9 @@ run_act s t a h o r = record {
 
 -- What each act of a run keeps, its phases keep.
 abbrev ListsActs : PhaseActs → Type 0
-ListsActs p = (t : State) → All (OfRun t.figures) (p t)
+ListsActs p = (t : State) → AllByRecursion (OfRun t.figures) (p t)
 
-run_phases : (s : State) (ps : List PhaseActs) → All ListsActs ps → (t : State) → RunFrom s t → RunFrom s (performed t (in_phases ps t))
+run_phases : (s : State) (ps : List PhaseActs) → AllByRecursion ListsActs ps → (t : State) → RunFrom s t → RunFrom s (performed t (in_phases ps t))
 run_phases s [] a t r = r
 run_phases s (p ∷ ps) a t r =
     subst (RunFrom s) (sym (performed_append t (p t) (in_phases ps (performed t (p t)))))
@@ -424,7 +424,7 @@ run_phases s (p ∷ ps) a t r =
 run_starts : (s : State) → Shape s.figures → RunFrom s s
 run_starts s h = record { shape = h; later = later_same s.figures; untouched = untouched_same (today s.figures) s.figures.register }
 
-steps_acts : (rank : Before) (last : PhaseActs) → ListsActs last → All ListsActs (steps rank (last ∷ []))
+steps_acts : (rank : Before) (last : PhaseActs) → ListsActs last → AllByRecursion ListsActs (steps rank (last ∷ []))
 steps_acts rank last h = (run_deliveries rank, (run_servings rank, (run_payments, (run_payouts, (run_repayments, (run_passings, (h, tt)))))))
 
 noon_runs : (rank : Before) (s : State) → Shape s.figures → RunFrom s (performed s (acts rank s Noon))

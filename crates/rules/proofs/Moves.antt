@@ -5,7 +5,7 @@ use Rattle.std.proofs.lemmas.List.{length-map}
 use Rattle.std.proofs.lemmas.Int.{ints}
 use Rattle.std.proofs.lemmas.Bool.Decides.{nat_tests}
 use Rattle.std.proofs.lemmas.Bool.{cases_eq, eq-eqb, ne_eqb}
-use Rattle.std.specs.List.{AllByRecursion as All}
+use Rattle.std.specs.List.{AllByRecursion}
 use Rattle.book.specs.Ledger.{sum_to}
 use Rattle.book.proofs.Sums.{sum_same}
 use Rattle.rank.specs.Claims.{is_delivering, is_receiving}
@@ -47,7 +47,7 @@ moves_length s (a ∷ l) =
 Still : Act → Type 0
 Still a = (s : State) → amount s a ≡ 0
 
-still_moves : (s : State) (l : List Act) → All Still l → moves s l ≡ 0
+still_moves : (s : State) (l : List Act) → AllByRecursion Still l → moves s l ≡ 0
 unfolding Still
 still_moves s [] o = refl
 still_moves s (a ∷ l) o =
@@ -55,7 +55,7 @@ still_moves s (a ∷ l) o =
     let z : one_if (ltb 0 (amount s a)) ≡ 0 = ap (λ n. one_if (ltb 0 n)) (o.0 s) in
     omega arith
 
-all_still : (act : ℕ → Act) → ((n : ℕ) → Still (act n)) → (xs : List ℕ) → All Still (map act xs)
+all_still : (act : ℕ → Act) → ((n : ℕ) → Still (act n)) → (xs : List ℕ) → AllByRecursion Still (map act xs)
 all_still act h [] = tt
 all_still act h (x ∷ xs) = (h x, all_still act h xs)
 
@@ -263,7 +263,7 @@ abbrev sum_of : (ℕ → ℕ) → List ℕ → ℕ
 sum_of n [] = 0
 sum_of n (x ∷ xs) = n x + sum_of n xs
 
-all_payments : (g : Figures) (s : State) (ms : List ℕ) → Shape s.figures → All (MemberOf g) ms → Less g s.figures
+all_payments : (g : Figures) (s : State) (ms : List ℕ) → Shape s.figures → AllByRecursion (MemberOf g) ms → Less g s.figures
     → (moves s (each payments_of ms) ≤ sum_of (λ m. four_if (position g m)) ms) × (Shape (performed s (each payments_of ms)).figures × Less g (performed s (each payments_of ms)).figures)
 all_payments g s [] h o l = (omega arith, (h, l))
 all_payments g s (m ∷ ms) h o l =
@@ -275,7 +275,7 @@ all_payments g s (m ∷ ms) h o l =
     let q = performed_append s (payments_of m) (each payments_of ms) in
     (omega arith, subst (λ (t : State). Shape t.figures × Less g t.figures) (sym q) rest.1)
 
-all_payouts : (g : Figures) (s : State) (n : ℕ → ℕ) (ms : List ℕ) → Shape s.figures → All (MemberOf s.figures) ms
+all_payouts : (g : Figures) (s : State) (n : ℕ → ℕ) (ms : List ℕ) → Shape s.figures → AllByRecursion (MemberOf s.figures) ms
     → ((k : ℕ) → below (position s.figures k) ≤ below (position g k))
     → moves s (map (λ m. pay_out m (n m)) ms) ≤ sum_of (λ m. one_if (ltb 0 (below (position g m)))) ms
 all_payouts g s n [] h o l = omega arith
@@ -302,7 +302,7 @@ payments_and_payouts : (s : State) → Shape s.figures
 payments_and_payouts s h =
     let t = performed s (payments s) in
     let ms = all_members s in
-    let o : All (MemberOf s.figures) ms = all_from_one (MemberOf s.figures) s.figures.size.members (λ m a b. (a, b)) in
+    let o : AllByRecursion (MemberOf s.figures) ms = all_from_one (MemberOf s.figures) s.figures.size.members (λ m a b. (a, b)) in
     let p = all_payments s.figures s ms h o (less_same s.figures) in
     let same : t.figures.size ≡ s.figures.size = p.1.1.size in
     let q : moves t (map (λ m. pay_out m (share t m)) (all_members t)) ≤ sum_of (λ m. one_if (ltb 0 (below (position s.figures m)))) (all_members t)
@@ -334,7 +334,7 @@ record Onward (s t : State) : Type 0 where
   shape : Shape t.figures
   later : Later s.figures t.figures
 
-onward : (s : State) (l : List Act) → Shape s.figures → All (OfRun s.figures) l → Onward s (performed s l)
+onward : (s : State) (l : List Act) → Shape s.figures → AllByRecursion (OfRun s.figures) l → Onward s (performed s l)
 onward s l h o = record { shape = shape_performed s l h; later = later_performed s l h o }
 
 -- Two movements for each line.

@@ -1,6 +1,6 @@
 -- The order of lines in a run: which lines the list holds, and that none stands behind one that it goes before.
 use Rattle.std.proofs.Common.{◌≡◌, ℕ, zero, suc, ◌<◌, ◌≤◌, Bool, true, false, cond, ◌&&◌, eqb, leb, ◌⊎◌, List, [], ◌∷◌, sym, refl, ◌∙◌, subst, inl, inr, ⊎_elim, arith}
-use Rattle.std.specs.List.{AllByRecursion as All}
+use Rattle.std.specs.List.{AllByRecursion}
 use Rattle.std.proofs.ByRecursion.{All-weaker}
 use Rattle.std.proofs.lemmas.Bool.{both_ways, cases_eq, eqb-true, and_parts, and_from, cond-true}
 use Rattle.std.proofs.lemmas.Bool.Decides.{nat_tests}
@@ -116,7 +116,7 @@ module _ (rank : Before) (law : (p : ℕ) → Lawful (rank p)) (f : Figures) (so
   in_turn_ordered p zero h = tt
   in_turn_ordered p (suc n) h =
       let less = in_turn_ordered p n (omega arith) in
-      let known : All (λ i. i < f.register.count) (ordered rank f.register p n)
+      let known : AllByRecursion (λ i. i < f.register.count) (ordered rank f.register p n)
       = All-weaker (λ i. (i < n) × (p (at i) ≡ true)) (λ i. i < f.register.count) (λ i o. let a = o.0 in omega arith) (ordered rank f.register p n)
       (all_ordered rank f.register p n) in
       elim (p (at n)) as (λ t. InTurn (place_goes rank f.register) (cond t (insert (place_goes rank f.register) n (ordered rank f.register p n)) (ordered rank f.register p n))) [

@@ -4,7 +4,7 @@ use native.Mathlib.Nat.{div-zero}
 use Rattle.std.proofs.lemmas.Nat.{mul-le}
 use Rattle.std.proofs.lemmas.Bool.{cases_eq}
 use Rattle.std.proofs.lemmas.List.Sums.{sum_by-cons, sum_by_push}
-use Rattle.std.specs.List.{AllByRecursion as All}
+use Rattle.std.specs.List.{AllByRecursion}
 use Rattle.book.specs.Ledger.{sum_to}
 use Rattle.book.proofs.Sums.{sum_zero}
 use Rattle.rules.specs.declared.event.Event.TheVariants.{Noon, Two}
@@ -52,7 +52,7 @@ sum_over_upto f zero = refl
 sum_over_upto f (suc n) = let a = sum_by_push f (upto n) n in let b = sum_over_upto f n in omega arith
 
 -- Members are paid out one after the other: the pool holds what is still to come.
-pay_outs_ready : (n : ℕ → ℕ) (ms : List ℕ) (s : State) → All (MemberOf s.figures) ms → Working s → sum_by n ms ≤ s.held pool cash
+pay_outs_ready : (n : ℕ → ℕ) (ms : List ℕ) (s : State) → AllByRecursion (MemberOf s.figures) ms → Working s → sum_by n ms ≤ s.held pool cash
     → Along Ready s (map (λ m. pay_out m (n m)) ms)
 pay_outs_ready n [] s o w h = tt
 pay_outs_ready n (m ∷ ms) s o w h =
@@ -77,14 +77,14 @@ payouts_ready s w =
 
 -- What holds of each act that finds a working state and what it asks for, holds along a list of such acts.
 pub along_working : (P : State → Act → Type 0) → ((s : State) (a : Act) → OfRun s.figures a → Ready s a → Working s → P s a)
-    → (s : State) (l : List Act) → All (OfRun s.figures) l → Along Ready s l → Working s → Along P s l
+    → (s : State) (l : List Act) → AllByRecursion (OfRun s.figures) l → Along Ready s l → Working s → Along P s l
 along_working P holds s [] o r w = tt
 along_working P holds s (a ∷ l) o r w = (
   holds s a o.0 r.0 w,
   along_working P holds (after_act s a) l (all_of_run _ _ (later_noted s.figures a (amount s a) w.shape o.0) l o.1) r.1 (act_works s a o.0 r.0 w),
 )
 
-pub performed_works : (s : State) (l : List Act) → All (OfRun s.figures) l → Along Ready s l → Working s → Working (performed s l)
+pub performed_works : (s : State) (l : List Act) → AllByRecursion (OfRun s.figures) l → Along Ready s l → Working s → Working (performed s l)
 performed_works s [] o r w = w
 performed_works s (a ∷ l) o r w =
     performed_works (after_act s a) l (all_of_run _ _ (later_noted s.figures a (amount s a) w.shape o.0) l o.1) r.1 (act_works s a o.0 r.0 w)
@@ -93,23 +93,23 @@ performed_works s (a ∷ l) o r w =
 abbrev AsksNothing : Act → Type 0
 AsksNothing a = (s : State) → Ready s a
 
-ready_along : (s : State) (l : List Act) → All AsksNothing l → Along Ready s l
+ready_along : (s : State) (l : List Act) → AllByRecursion AsksNothing l → Along Ready s l
 ready_along s [] n = tt
 ready_along s (a ∷ l) n = (n.0 s, ready_along (after_act s a) l n.1)
 
-all_any : {A : Type 0} (P : A → Type 0) → ((x : A) → P x) → (xs : List A) → All P xs
+all_any : {A : Type 0} (P : A → Type 0) → ((x : A) → P x) → (xs : List A) → AllByRecursion P xs
 all_any P f [] = tt
 all_any P f (x ∷ xs) = (f x, all_any P f xs)
 
-ready_map : {A : Type 0} (f : A → Act) → ((x : A) → AsksNothing (f x)) → (xs : List A) → All AsksNothing (map f xs)
+ready_map : {A : Type 0} (f : A → Act) → ((x : A) → AsksNothing (f x)) → (xs : List A) → AllByRecursion AsksNothing (map f xs)
 ready_map f n xs = all_map AsksNothing f xs (all_any (λ x. AsksNothing (f x)) n xs)
 
-ready_each : {A : Type 0} (f : A → List Act) → ((x : A) → All AsksNothing (f x)) → (xs : List A) → All AsksNothing (each f xs)
-ready_each f n xs = all_each AsksNothing f xs (all_any (λ x. All AsksNothing (f x)) n xs)
+ready_each : {A : Type 0} (f : A → List Act) → ((x : A) → AllByRecursion AsksNothing (f x)) → (xs : List A) → AllByRecursion AsksNothing (each f xs)
+ready_each f n xs = all_each AsksNothing f xs (all_any (λ x. AllByRecursion AsksNothing (f x)) n xs)
 
 -- A phase whose acts are of the run and find what they ask for.
 abbrev pub FitPhase : PhaseActs → Type 0
-FitPhase p = (s : State) → Working s → All (OfRun s.figures) (p s) × Along Ready s (p s)
+FitPhase p = (s : State) → Working s → AllByRecursion (OfRun s.figures) (p s) × Along Ready s (p s)
 
 pub phase_works : (p : PhaseActs) → FitPhase p → (s : State) → Working s → Working (performed s (p s))
 phase_works p f s w = let o = f s w in performed_works s (p s) o.0 o.1 w
@@ -154,23 +154,23 @@ pub fit_chargings : FitPhase chargings
 fit_chargings s w = (run_chargings s, ready_along s (chargings s) (ready_map charge (λ m s. tt) (all_members s)))
 
 -- Phases one after the other.
-pub phases_work : (ps : List PhaseActs) → All FitPhase ps → (s : State) → Working s → Working (performed s (in_phases ps s))
+pub phases_work : (ps : List PhaseActs) → AllByRecursion FitPhase ps → (s : State) → Working s → Working (performed s (in_phases ps s))
 phases_work [] f s w = w
 phases_work (p ∷ ps) f s w =
     subst Working (sym (performed_append s (p s) (in_phases ps (performed s (p s)))))
     (phases_work ps f.1 (performed s (p s)) (phase_works p f.0 s w))
 
-pub phases_taken : (ps : List PhaseActs) → All FitPhase ps → (s : State) → Working s → Along PostingTaken s (in_phases ps s)
+pub phases_taken : (ps : List PhaseActs) → AllByRecursion FitPhase ps → (s : State) → Working s → Along PostingTaken s (in_phases ps s)
 phases_taken [] f s w = tt
 phases_taken (p ∷ ps) f s w =
     along_append PostingTaken s (p s) (in_phases ps (performed s (p s))) (phase_taken p f.0 s w)
     (phases_taken ps f.1 (performed s (p s)) (phase_works p f.0 s w))
 
-fit_noon : (rank : Before) → All FitPhase (noon_run rank)
+fit_noon : (rank : Before) → AllByRecursion FitPhase (noon_run rank)
 fit_noon rank =
     (fit_differences, (fit_deliveries rank, (fit_servings rank, (fit_payments, (fit_payouts, (fit_repayments, (fit_passings, (fit_marks, tt))))))))
 
-fit_two : (rank : Before) → All FitPhase (two_run rank)
+fit_two : (rank : Before) → AllByRecursion FitPhase (two_run rank)
 fit_two rank =
     (fit_deliveries rank, (fit_servings rank, (fit_payments, (fit_payouts, (fit_repayments, (fit_passings, (fit_chargings, tt)))))))
 
