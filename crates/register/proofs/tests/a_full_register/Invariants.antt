@@ -2,4 +2,4 @@ use Rattle.register.specs.Fits.{Kept}
 use Rattle.register.proofs.tests.a_full_register.Given as goal
 
 abbrev pub invariant-loop-due : goal.invariant-loop-due
-invariant-loop-due l = Kept l.register
+invariant-loop-due g l = Kept l.register

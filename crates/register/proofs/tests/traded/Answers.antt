@@ -11,6 +11,6 @@ returns c =
     let g = c.args.register.now in
     let d = c.args.due in
     let t = c.args.trade in
-    let room : Room g d t = ltb-false register_places (trade_filed g d t).count (sym c.lacks-place.ensures ∙ c.if-lacks-place.false) in
-    let small : trade_too_large g d t ≡ false = sym c.trade_too_large.ensures ∙ c.if-trade-too-large.false in
+    let room : Room g d t = ltb-false register_places (trade_filed g d t).count (sym c.lacks_place.ensures ∙ c.if-lacks_place.false) in
+    let small : trade_too_large g d t ≡ false = sym c.trade_too_large.ensures ∙ c.if-trade_too_large.false in
     subst Kept (sym c.net.ensures) (trade_kept g d t c.requires.table room c.requires.lines small)
