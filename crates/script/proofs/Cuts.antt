@@ -1,5 +1,5 @@
 -- The first word of a text, by the runs of bytes that the code counts.
-use Rattle.std.proofs.Common.{◌≡◌, ℕ, ◌+◌, Bool, true, false, List, [], ◌∷◌, ◌++◌, length, take, drop, sym, refl, ap, ◌∙◌, append_assoc, append-nil, one-add, arith}
+use Rattle.std.proofs.Common.{◌≡◌, ℕ, Bool, true, false, List, [], ◌∷◌, ◌++◌, length, take, drop, sym, refl, ap, ◌∙◌, append_assoc, append-nil, one-add, arith}
 use Rattle.std.specs.List.{prefix_len}
 use Rattle.script.specs.Splitting.{white, dark, ahead, words_on, words_of}
 

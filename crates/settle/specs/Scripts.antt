@@ -1,6 +1,6 @@
 -- A script is answered line by line.
 use Rattle.std.specs.Prelude.{◌≡◌, ℕ, false, List, [], ◌∷◌, ◌++◌, length, Option, ◌==◌}
-use Rattle.std.specs.List.{flat_map, AllByRecursion as All}
+use Rattle.std.specs.List.{flat_map, AllByRecursion}
 use Rattle.std.specs.Option.{option_to_list}
 use Rattle.script.specs.Gathering.{room}
 use Rattle.script.specs.Meaning.{meaning}
@@ -22,7 +22,7 @@ AnsweredAll (l ∷ ls) s rs t = (r : Option Answer) × (u : Session) × (left : 
 
 -- A line has no line feed in it.
 abbrev pub Unbroken : List ℕ → Type 0
-Unbroken l = All (λ b. (b == 10) ≡ false) l
+Unbroken l = AllByRecursion (λ b. (b == 10) ≡ false) l
 
 -- The lines as a script has them, each ended by a line feed.
 abbrev pub script_of : List (List ℕ) → List ℕ
@@ -32,4 +32,4 @@ script_of lines = flat_map (λ l. l ++ 10 ∷ []) lines
 abbrev pub LineByLine : Type 0
 LineByLine =
     (lines : List (List ℕ)) (d e : Desk) (rs : List Answer) → length d.line.bytes ≡ room → d.line.held ≡ 0 →
-    All Unbroken lines → Ran (script_of lines) d rs e → AnsweredAll lines d.session rs e.session
+    AllByRecursion Unbroken lines → Ran (script_of lines) d rs e → AnsweredAll lines d.session rs e.session

@@ -9,22 +9,23 @@ mod session;
 mod statement;
 
 use answer::Answer;
-use anyhow::anyhow;
 use book::Book;
 use desk::Desk;
 use statement::account_line;
 use std::alloc::Global;
 use std::io;
 use std::io::{BufWriter, Read, Write};
+use std::process::ExitCode;
 
 // How many bytes are read at a time.
 const CHUNK: usize = 65_536;
 
-fn main(rt: HostRuntime) -> anyhow::Result<()> {
+// Errors in the script end the program with status 1 and no word: its answers have told them.
+fn main(rt: HostRuntime) -> anyhow::Result<ExitCode> {
     if run(&rt)? {
-        return Err(anyhow!("the script has errors"));
+        return Ok(ExitCode::FAILURE);
     }
-    Ok(())
+    Ok(ExitCode::SUCCESS)
 }
 
 // Answers the whole input, and says whether there was an error in it.

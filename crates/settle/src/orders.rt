@@ -18,9 +18,9 @@ fn heard(answer: Result<(), BookFault>) -> Answer
 }
 
 pub fn obey<B: Book>(book: &mut B, command: BookCommand) -> Answer
-    ensures answer { good book.old → result ≡ answer_to (ledger book.old) command }
-    ensures left { good book.old → Left command (ledger book.old) (ledger book.new) }
-    ensures stays { good book.old → good book.new }
+    ensures answer { B.good book.old → result ≡ answer_to (B.ledger book.old) command }
+    ensures left { B.good book.old → Left command (B.ledger book.old) (B.ledger book.new) }
+    ensures stays { B.good book.old → B.good book.new }
 {
     match command {
         BookCommand::Put {

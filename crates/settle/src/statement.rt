@@ -8,7 +8,7 @@ use std::alloc::{AllocError, Global};
 
 // The line of one account: its number, and what it holds of each asset.
 pub fn account_line<B: Book>(heap: Global, book: &B, account: u8) -> Result<String, AllocError>
-    ensures { good book.now → IfOk result (λ text. string_bytes text ≡ account_text (ledger book.now) account) }
+    ensures { B.good book.now → IfOk result (λ text. string_bytes text ≡ account_text (B.ledger book.now) account) }
 {
     let mut text = format!(in heap; "account {account}")?;
     for asset in 0..book.assets() {

@@ -6,8 +6,8 @@ use Rattle.script.proofs.words.dark_len.Goals as goal
 pub loop-n-preserved : goal.loop-n-preserved
 loop-n-preserved c = search (rules, prefix_len-drop_yes dark)
 
-pub returns-else-not-is-white : goal.returns-else-not-is-white
-returns-else-not-is-white c = search (rules, prefix_len-drop_no dark)
+pub returns-else-not-is_white : goal.returns-else-not-is_white
+returns-else-not-is_white c = search (rules, prefix_len-drop_no dark)
 
 pub returns-after-loop-n : goal.returns-after-loop-n
 returns-after-loop-n c = search (rules, prefix_len-drop_all dark)

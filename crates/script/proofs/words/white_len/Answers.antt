@@ -6,8 +6,8 @@ use Rattle.script.proofs.words.white_len.Goals as goal
 pub loop-n-preserved : goal.loop-n-preserved
 loop-n-preserved c = search (rules, prefix_len-drop_yes white)
 
-pub returns-else-is-white : goal.returns-else-is-white
-returns-else-is-white c = search (rules, prefix_len-drop_no white)
+pub returns-else-is_white : goal.returns-else-is_white
+returns-else-is_white c = search (rules, prefix_len-drop_no white)
 
 pub returns-after-loop-n : goal.returns-after-loop-n
 returns-after-loop-n c = search (rules, prefix_len-drop_all white)
