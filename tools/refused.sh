@@ -3,9 +3,10 @@
 # without a check, forging one. Each attempt is a crate of its own in a temporary folder, beside copies of
 # the crate `feed` and of what it rests on; one attempt that must build is the control.
 #
-# Types, moves and privacy are refused by the front end (rt mir); a making without a check by the proof (rt dev, which
-# proves the crates below too, and leaves their tests out). What target/ has of the copied crates is taken over, so it
-# is quickest after a check: half a minute of one core, and from nothing a minute and a half.
+# Each attempt is checked by `rt check`, which proves the crates below it first and leaves their tests out. Types, moves
+# and privacy are refused by the front end, which stops before any proof; a making without a check is refused by the
+# proof alone. What the crates' out/ folders have is copied with them, so it is quickest after a check: a minute and a
+# half of one core, and from nothing two minutes.
 set -eu
 here=$(cd "$(dirname "$0")/.." && pwd)
 work=$(mktemp -d)
@@ -24,17 +25,14 @@ lines_of feed | awk '!seen[$0]++' > crates.txt
 for name in $(sed 's/:.*//' crates.txt); do
     cp -r "$here/crates/$name" crates/
     rm -rf "crates/$name/must-fail"
-    for part in inc log rlib stamp; do
-        for old in "$here/target/$part/$name" "$here/target/$part/$name".*; do
-            if [ -e "$old" ]; then mkdir -p "target/$part" && cp -r "$old" "target/$part/"; fi
-        done
-    done
 done
 
 crate() { # NAME BODY: a crate that has a raw and a checked feed
     mkdir -p "crates/$1/src"
     printf '%s: feed\n' "$1" >> crates.txt
     cat > "crates/$1/src/lib.rt" <<EOF
+#![tactic(auto)]
+
 use feed::entries::Entries;
 use feed::entry::Item;
 use feed::feed::CheckedFeed;
@@ -52,22 +50,38 @@ wrong() { # NAME EXPECTED FOUND
     exit 1
 }
 
-builds() { # NAME BODY
-    crate "$1" "$2"
-    if rt dev "$1" > "$1.out" 2>&1; then echo "builds, as it must: $1"; else wrong "$1" "to build" "a refusal"; fi
+checks() ( # NAME: in a subshell, so that the next call begins here too
+    cd "crates/$1"
+    rt check > "$work/$1.out" 2>&1
+)
+
+front() { # NAME: the first error of the front end, or none
+    found=$(sed -n 's/.*: error\[\([a-z0-9-]*\)\].*/\1/p' "$1.out" | head -1)
+    echo "${found:-none}"
 }
 
-refused() { # NAME ERROR BODY: the front end refuses, with that error first
+builds() { # NAME BODY
+    crate "$1" "$2"
+    if checks "$1" && grep -q '^logic=proved ' "$1.out"; then echo "builds, as it must: $1"; else wrong "$1" "to build" "a refusal"; fi
+}
+
+refused() { # NAME ERROR BODY: the front end refuses, with that error first, and no proof is begun
     crate "$1" "$3"
-    if rt mir "$1" > "$1.out" 2>&1; then found="none"; else found=$(sed -n 's/.*: error\[\([a-z0-9-]*\)\].*/\1/p' "$1.out" | head -1); fi
-    if [ "$found" = "$2" ]; then echo "refused ($2): $1"; else wrong "$1" "$2" "$found"; fi
+    if checks "$1"; then wrong "$1" "$2" "that it builds"; fi
+    found=$(front "$1")
+    if [ "$found" != "$2" ]; then wrong "$1" "$2" "$found"; fi
+    if grep -q '^logic=' "$1.out"; then wrong "$1" "only the front end to refuse" "a proof begun"; fi
+    echo "refused ($2): $1"
 }
 
 unproved() { # NAME NEED BODY: the front end takes it, and the proof lacks that need
     crate "$1" "$3"
-    if ! rt mir "$1" > "$1.out" 2>&1; then wrong "$1" "only the proof to fail" "an error of the front end"; fi
-    if rt dev "$1" > "$1.out" 2>&1; then wrong "$1" "a refusal" "that it builds"; fi
-    if grep -q "\`$2\`" "$1.out"; then echo "not proved ($2): $1"; else wrong "$1" "$2" "another refusal"; fi
+    if checks "$1"; then wrong "$1" "a refusal" "that it builds"; fi
+    found=$(front "$1")
+    if [ "$found" != none ]; then wrong "$1" "only the proof to fail" "$found"; fi
+    if ! grep -q '^logic=not-proved' "$1.out"; then wrong "$1" "only the proof to fail" "that it never got there"; fi
+    if ! grep -q "^fn $1::attempt: .*\`$2\`" "$1.out"; then wrong "$1" "$2" "another refusal"; fi
+    echo "not proved ($2): $1"
 }
 
 builds control 'if raw.check().is_ok() { let mut made = raw.checked().entries(); return made.next(); } let mut entries = good.entries(); entries.next()'

@@ -9,5 +9,5 @@ abbrev pub told : Entry → Told
 told (Trade r b bf s sf x q p) = trade r.now b bf s sf x q p
 told (Close x p) = close x p
 
-abbrev pub toldIfAny : Option Entry → Option Told
-toldIfAny e = option_map told e
+abbrev pub told_if_any : Option Entry → Option Told
+told_if_any e = option_map told e

@@ -7,7 +7,8 @@ use Rattle.feed.specs.Format.{Told, trade, close, reference, flag, trade_fields,
 use Rattle.feed.proofs.Turns.{past_entry, at_end}
 use Rattle.feed_write.specs.Written.{word, letters, bytes, feed_bytes, placed, WellFormed, RoundTrip}
 use Rattle.std.proofs.lemmas.List.{length-append, append_assoc, take_all}
-use Rattle.std.specs.List.{flat_map, AllByRecursion as All}
+use Rattle.std.proofs.lemmas.List.Elements.{All-head, All-tail}
+use Rattle.std.specs.List.{All, flat_map}
 use Rattle.feed_write.proofs.Stands.{Stands, within, front, back}
 
 then_reads : {X Y : Type 0} {r : Read X} {x : X} {q : ℕ} {z : Read Y} (f : X → ℕ → Read Y) → r ≡ Ok (x, q) → f x q ≡ z → then r f ≡ z
@@ -79,8 +80,8 @@ module _ (bs : List ℕ) where
       let together : flat_map bytes (e ∷ es) ++ codes "Z" ≡ bytes e ++ w = append_assoc (bytes e) (flat_map bytes es) (codes "Z") in
       let g : Stands bs p (bytes e ++ w) = subst (Stands bs p) together h in
       let m : (p + length (bytes e)) + length w ≡ length bs = omega (arith, ap length together, length-append (bytes e) w) in
-      past_entry bs p e (p + length (bytes e)) (entry_reads p e a.0 (front bs p (bytes e) w g))
-      ∙ ap (ahead (p, e)) (list_reads (p + length (bytes e)) es a.1 (back bs p (bytes e) w g) m)
+      past_entry bs p e (p + length (bytes e)) (entry_reads p e (All-head WellFormed e es a) (front bs p (bytes e) w g))
+      ∙ ap (ahead (p, e)) (list_reads (p + length (bytes e)) es (All-tail WellFormed e es a) (back bs p (bytes e) w g) m)
 
 head_reads : (bs : List ℕ) → head (codes "TRF" ++ (0 ∷ 1 ∷ bs)) 0 ≡ Ok (tt, 5)
 head_reads bs =

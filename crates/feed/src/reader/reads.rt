@@ -1,7 +1,7 @@
 ghost use Rattle.std.specs.Prelude.{◌≡◌, ◌+◌, ◌-◌, ◌<◌, ◌≤◌, length, IfOk, OnOk};
 ghost use Rattle.feed.specs.Readings.{field as field_of, number};
 ghost use Rattle.feed.specs.Format.{head as head_of, flag as flag_of, reference as reference_of, trade_fields as trade_of, close_fields as close_of, entry as entry_of, end as end_of};
-ghost use Rattle.feed.specs.Shown.{toldIfAny};
+ghost use Rattle.feed.specs.Shown.{told_if_any};
 ghost use Rattle.feed.specs.Steps.{Step, itself, held};
 
 use crate::entry::{Entry, MOST_REFERENCE};
@@ -88,7 +88,7 @@ impl<'a> Reader<'a> {
 
     /// The fields of a trade.
     fn trade(&mut self) -> Result<Option<Entry<'a>>, FeedFault>
-        ensures { Step toldIfAny trade_of self.old self.new result }
+        ensures { Step told_if_any trade_of self.old self.new result }
     {
         let reference = self.reference()?;
         let buyer = self.byte()?;
@@ -112,7 +112,7 @@ impl<'a> Reader<'a> {
 
     /// The fields of a closing price.
     fn close(&mut self) -> Result<Option<Entry<'a>>, FeedFault>
-        ensures { Step toldIfAny close_of self.old self.new result }
+        ensures { Step told_if_any close_of self.old self.new result }
     {
         let security = self.byte()?;
         let price = self.word()?;
@@ -121,7 +121,7 @@ impl<'a> Reader<'a> {
 
     /// The entry at the place reached, or none at the letter that ends the feed.
     pub(crate) fn entry(&mut self) -> Result<Option<Entry<'a>>, FeedFault>
-        ensures step { Step toldIfAny entry_of self.old self.new result }
+        ensures step { Step told_if_any entry_of self.old self.new result }
         ensures on { OnOk result (self.old.place < self.new.place) }
     {
         match self.byte()? as char {

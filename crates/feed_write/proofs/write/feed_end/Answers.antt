@@ -3,16 +3,16 @@ use Rattle.std.proofs.lemmas.Result.{err_from_is_err_and}
 use Rattle.feed_write.proofs.Ends.{within_room, refused_at, passed_at, no_more}
 use Rattle.feed_write.proofs.write.feed_end.Goals as goal
 
-pub returns-in-err-place : goal.returns-in-err-place
-returns-in-err-place c =
-    let r = err_from_is_err_and c.from-residual.result c.from-residual.ensures.1 in
-    let left = refused_at c.args.room c.loop-entry.place c.args.entries.now c.loop-entry.entry-index _ c.loop-entry-test.true c.in-err-place.ensures in
+pub returns-in_err-place : goal.returns-in_err-place
+returns-in_err-place c =
+    let r = err_from_is_err_and c.from_residual.result c.from_residual.ensures.1 in
+    let left = refused_at c.args.room c.loop-entry.place c.args.entries.now c.loop-entry.entry-index _ c.loop-entry-test.true c.in_err-place.ensures in
     let inv = c.loop-entry.invariant.1 in
     cc
 
 pub loop-entry-preserved : goal.loop-entry-preserved
 loop-entry-preserved c =
-    let h = c.in-ok-place.ensures in
+    let h = c.in_ok-place.ensures in
     (within_room c.args.room c.loop-entry.place c.args.entries.now c.loop-entry.entry-index _ h, c.loop-entry.invariant.1 ∙ passed_at c.args.room c.loop-entry.place c.args.entries.now c.loop-entry.entry-index _ c.loop-entry-test.true h)
 
 pub returns-then-place-room : goal.returns-then-place-room

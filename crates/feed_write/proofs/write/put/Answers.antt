@@ -4,6 +4,6 @@ use Rattle.feed_write.proofs.write.put.Goals as goal
 
 pub returns : goal.returns
 returns c = record {
-  after = over_from_putMid c.args.place _ c.args.out.now _ c.args.part.now c.copy-from-slice.ensures.after (omega arith);
+  after = over_from_putMid c.args.place _ c.args.out.now _ c.args.part.now c.copy_from_slice.ensures.after (omega arith);
   ends = refl;
 }

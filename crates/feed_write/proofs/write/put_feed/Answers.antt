@@ -1,5 +1,5 @@
 use Rattle.std.proofs.Common.{◌+◌, [], ◌∷◌, map, length, drop, Ok, sym, ap, ◌∙◌, subst, arith}
-use Rattle.std.specs.List.{flat_map, AllByRecursion as All}
+use Rattle.std.specs.List.{All, flat_map}
 use Rattle.std.proofs.lemmas.List.{take_all}
 use Rattle.feed.specs.Shown.{told}
 use Rattle.feed_write.specs.Written.{bytes, feed_end, list_end, Wrote, WellFormed}
@@ -8,8 +8,8 @@ use Rattle.feed_write.proofs.Feeds.{joined_next, formed_next, reads_back}
 use Rattle.feed_write.proofs.Overs.{wrote_more}
 use Rattle.feed_write.proofs.write.put_feed.Goals as goal
 
-pub put-entry-place-requires : goal.put-entry-place-requires
-put-entry-place-requires c =
+pub put_entry-place-requires : goal.put_entry-place-requires
+put_entry-place-requires c =
     let es = c.args.entries.now in
     let i = c.loop-entry.entry-index in
     let room = length c.put-place.new.out in
@@ -25,13 +25,13 @@ loop-entry-preserved c =
     let room = length c.put-place.new.out in
     let g = some_end (feed_end (length c.args.out.now) (map told es)) c.requires in
     let left = left_end (length c.args.out.now) room g.0 c.put-place.result c.loop-entry.place i es g.1 (omega arith) c.put-place.ensures.ends c.loop-entry.invariant.1 in
-    let w = c.put-entry-place.ensures.wrote in
+    let w = c.put_entry-place.ensures.wrote in
     let l = begins_within room c.loop-entry.place _ (map told (drop i es)) left in (
-      subst (λ v. Wrote c.put-place.new.out c.put-place.result v c.put-entry-place.new.out c.put-entry-place.result)
+      subst (λ v. Wrote c.put-place.new.out c.put-place.result v c.put_entry-place.new.out c.put_entry-place.result)
           (joined_next es i _ c.loop-entry-test.true)
           (wrote_more c.put-place.new.out c.put-place.result _ c.loop-entry.out c.loop-entry.place _ _ _ c.loop-entry.invariant.0 w l),
       c.loop-entry.invariant.1 ∙ next_at room c.loop-entry.place es i _ _ c.loop-entry-test.true left ∙ ap (λ q. list_end room q (map told (drop (i + 1) es))) (sym w.ends),
-      formed_next es i _ c.loop-entry-test.true c.loop-entry.invariant.2 c.put-entry-place.ensures.formed,
+      formed_next es i _ c.loop-entry-test.true c.loop-entry.invariant.2 c.put_entry-place.ensures.formed,
     )
 
 pub put-requires : goal.put-requires

@@ -1,5 +1,5 @@
 use Rattle.std.proofs.Common.{◌≡◌, map, length, take, drop}
-use Rattle.std.specs.List.{flat_map, AllByRecursion as All}
+use Rattle.std.specs.List.{All, flat_map}
 use Rattle.feed.specs.Shown.{told}
 use Rattle.feed_write.specs.Written.{bytes, list_end, Wrote, WellFormed}
 use Rattle.feed_write.proofs.write.put_feed.Given as goal

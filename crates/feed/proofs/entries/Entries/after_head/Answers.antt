@@ -7,10 +7,13 @@ unreachable-requires c =
     let h = rw (c.at-reader.ensures.0, c.at-reader.ensures.1) at c.in-Err.ensures.2 in
     head_accepted c.args.bytes.now c.requires _ h
 
-pub invariant-of-result : goal.invariant-of-result
-invariant-of-result c =
+pub invariant_of-result : goal.invariant_of-result
+invariant_of-result c =
     let h = rw (c.at-reader.ensures.0, c.at-reader.ensures.1, sym c.place.ensures) at c.in-Ok.ensures.2 in
-    (omega (arith, ap length c.head.ensures.1, ap length c.at-reader.ensures.0), (first_good c.args.bytes.now c.requires _ c.place.result h, tt))
+    record {
+      within = omega (arith, ap length c.head.ensures.1, ap length c.at-reader.ensures.0);
+      good = first_good c.args.bytes.now c.requires _ c.place.result h;
+    }
 
 pub returns : goal.returns
 returns c =
