@@ -1,6 +1,6 @@
 -- Insertion into a list in order, and that there is one such list.
 use Rattle.std.proofs.Common.{◌≡◌, Bool, true, false, cond, not, List, [], ◌∷◌, sym, refl, ap, ◌∙◌, subst, inl, inr, ⊎_elim, arith}
-use Rattle.std.specs.List.{AllByRecursion as All}
+use Rattle.std.specs.List.{AllByRecursion}
 use Rattle.std.specs.List.Sorted.{IsPermutation}
 use Rattle.std.proofs.ByRecursion.{All-weaker}
 use Rattle.std.proofs.lemmas.List.Sorted.{IsPermutation-refl, IsPermutation-trans, IsPermutation-cons, IsPermutation-swap}
@@ -9,10 +9,10 @@ use Rattle.rank.specs.Order.{EachTwo, InOrder, insert, In, SameMembers}
 use Rattle.rank.proofs.Members.{all_in, all_both, each_two_with}
 
 module _ {X : Type 0} (goes : X → X → Bool) where
-  pub all_insert : (P : X → Type 0) (x : X) (xs : List X) → P x → All P xs → All P (insert goes x xs)
+  pub all_insert : (P : X → Type 0) (x : X) (xs : List X) → P x → AllByRecursion P xs → AllByRecursion P (insert goes x xs)
   all_insert P x [] p a = (p, tt)
   all_insert P x (y ∷ ys) p a =
-      elim (goes x y) as (λ t. All P (cond t (x ∷ y ∷ ys) (y ∷ insert goes x ys))) [ true ↦ (p, a) | false ↦ (a.0, all_insert P x ys p a.1) ]
+      elim (goes x y) as (λ t. AllByRecursion P (cond t (x ∷ y ∷ ys) (y ∷ insert goes x ys))) [ true ↦ (p, a) | false ↦ (a.0, all_insert P x ys p a.1) ]
 
   pub insert_shuffled : (x : X) (xs : List X) → IsPermutation (x ∷ xs) (insert goes x xs)
   insert_shuffled x [] = IsPermutation-refl (x ∷ [])
@@ -26,7 +26,7 @@ module _ {X : Type 0} (goes : X → X → Bool) where
 
   -- R holds of each two after an insertion if the test tells it of x and each, and it goes on from what x goes before.
   pub each_two_insert : (R : X → X → Type 0) (x : X) (xs : List X) →
-      All (λ y. (goes x y ≡ true → R x y) × (goes x y ≡ false → R y x)) xs → EachTwo (λ y z. goes x y ≡ true → R y z → R x z) xs →
+      AllByRecursion (λ y. (goes x y ≡ true → R x y) × (goes x y ≡ false → R y x)) xs → EachTwo (λ y z. goes x y ≡ true → R y z → R x z) xs →
       EachTwo R xs → EachTwo R (insert goes x xs)
   each_two_insert R x [] told on r = (tt, tt)
   each_two_insert R x (y ∷ ys) told on r = go (goes x y) refl (each_two_insert R x ys told.1 on.1 r.1)
@@ -49,17 +49,17 @@ module _ {X : Type 0} (P : X → Type 0) (goes : X → X → Bool) (law : Strict
   one_way x y p q e =
       ⊎_elim (λ t. absurd (both_ways (goes x x) (law.never x p) (law.chain x y x p q p e t))) (λ f. f) (cases_Bool (goes y x))
 
-  pub in_turn : (xs : List X) → All P xs → InOrder goes xs → InTurn goes xs
+  pub in_turn : (xs : List X) → AllByRecursion P xs → InOrder goes xs → InTurn goes xs
   in_turn xs a o = each_two_with P (λ x y. goes x y ≡ true) (λ x y. goes y x ≡ false) xs one_way a o
 
   -- x and each element of the list go one before the other.
-  pub insert_in_order : (x : X) (xs : List X) → P x → All P xs → All (λ y. goes y x ≡ not (goes x y)) xs → InOrder goes xs → InOrder goes (insert goes x xs)
+  pub insert_in_order : (x : X) (xs : List X) → P x → AllByRecursion P xs → AllByRecursion (λ y. goes y x ≡ not (goes x y)) xs → InOrder goes xs → InOrder goes (insert goes x xs)
   insert_in_order x xs p a one o =
       each_two_insert goes (λ y z. goes y z ≡ true) x xs
       (All-weaker (λ y. goes y x ≡ not (goes x y)) (λ y. (goes x y ≡ true → goes x y ≡ true) × (goes x y ≡ false → goes y x ≡ true)) (λ y e. (λ t. t, λ f. e ∙ ap not f)) xs one)
       (each_two_with P (λ y z. goes y z ≡ true) (λ y z. goes x y ≡ true → goes y z ≡ true → goes x z ≡ true) xs (λ y z q r _. law.chain x y z p q r) a o) o
 
-  pub insert_in_turn : (x : X) (xs : List X) → P x → All P xs → InTurn goes xs → InTurn goes (insert goes x xs)
+  pub insert_in_turn : (x : X) (xs : List X) → P x → AllByRecursion P xs → InTurn goes xs → InTurn goes (insert goes x xs)
   insert_in_turn x xs p a o =
       each_two_insert goes (λ y z. goes z y ≡ false) x xs
       (All-weaker P (λ y. (goes x y ≡ true → goes y x ≡ false) × (goes x y ≡ false → goes x y ≡ false)) (λ y q. (one_way x y p q, λ f. f)) xs a)
@@ -69,7 +69,7 @@ module _ {X : Type 0} (P : X → Type 0) (goes : X → X → Bool) (law : Strict
       behind y z q r e f =
           ⊎_elim (λ t. absurd (both_ways (goes z y) f (law.chain z x y r p q t e))) (λ g. g) (cases_Bool (goes z x))
 
-  module _ (x y : X) (xs ys : List X) (p : P x) (q : P y) (a : All (λ z. goes x z ≡ true) xs) (b : All (λ z. goes y z ≡ true) ys)
+  module _ (x y : X) (xs ys : List X) (p : P x) (q : P y) (a : AllByRecursion (λ z. goes x z ≡ true) xs) (b : AllByRecursion (λ z. goes y z ≡ true) ys)
       (m : SameMembers (x ∷ xs) (y ∷ ys)) where
     -- Lists in order with the same members begin alike.
     same_first : x ≡ y
@@ -86,10 +86,10 @@ module _ {X : Type 0} (P : X → Type 0) (goes : X → X → Bool) (law : Strict
       back = λ z n. ⊎_elim (λ e. absurd (once y ys q b (subst (λ (w : X). In w ys) (e ∙ same_first) n))) (λ t. t) (m.back z (inr n));
     }
       where
-        once : (w : X) (ws : List X) → P w → All (λ z. goes w z ≡ true) ws → In w ws → ⊥
+        once : (w : X) (ws : List X) → P w → AllByRecursion (λ z. goes w z ≡ true) ws → In w ws → ⊥
         once w ws r c n = both_ways (goes w w) (law.never w r) (all_in (λ z. goes w z ≡ true) ws w c n)
 
-  pub order_unique : (xs ys : List X) → All P xs → SameMembers xs ys → InOrder goes xs → InOrder goes ys → xs ≡ ys
+  pub order_unique : (xs ys : List X) → AllByRecursion P xs → SameMembers xs ys → InOrder goes xs → InOrder goes ys → xs ≡ ys
   order_unique [] [] a m o q = refl
   order_unique [] (y ∷ ys) a m o q = absurd (m.back y (inl refl))
   order_unique (x ∷ xs) [] a m o q = absurd (m.there x (inl refl))

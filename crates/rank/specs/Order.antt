@@ -1,6 +1,6 @@
 -- Lists in rank order, and the first of some lines.
 use Rattle.std.specs.Prelude.{◌≡◌, ℕ, ◌<◌, Bool, true, false, cond, ◌⊎◌, List, [], ◌∷◌, length, pos, Some, None, Option, slice_index_or}
-use Rattle.std.specs.List.{AllByRecursion as All}
+use Rattle.std.specs.List.{AllByRecursion}
 use Rattle.std.specs.List.Sorted.{IsPermutation}
 use Rattle.rank.specs.declared.key.Flag.TheVariants.{LocalPrincipal}
 use Rattle.rank.specs.declared.claim.Claim.{Claim}
@@ -9,7 +9,7 @@ use Rattle.rank.specs.Laws.{Peers, Rivals, Lawful}
 -- R holds of each earlier element and each later one.
 abbrev pub EachTwo : {X : Type 0} → (X → X → Type 0) → List X → Type 0
 EachTwo R [] = Unit {0}
-EachTwo R (x ∷ xs) = All (R x) xs × EachTwo R xs
+EachTwo R (x ∷ xs) = AllByRecursion (R x) xs × EachTwo R xs
 
 -- Each earlier element goes before each later one.
 abbrev pub InOrder : {X : Type 0} → (X → X → Bool) → List X → Type 0
@@ -31,13 +31,13 @@ pub record SameMembers {X : Type 0} (xs ys : List X) : Type 0 where
 -- A line put into a list in rank order, among its rivals, leaves it in rank order and adds just that line.
 abbrev pub InsertionKeepsOrder : Type 0
 InsertionKeepsOrder =
-    (goes : Claim → Claim → Bool) → Lawful goes → (x : Claim) (xs : List Claim) → All (Rivals x) xs → InOrder goes xs →
+    (goes : Claim → Claim → Bool) → Lawful goes → (x : Claim) (xs : List Claim) → AllByRecursion (Rivals x) xs → InOrder goes xs →
     InOrder goes (insert goes x xs) × IsPermutation (x ∷ xs) (insert goes x xs)
 
 -- Peers have one list in rank order.
 abbrev pub OrderIsUnique : Type 0
 OrderIsUnique =
-    (goes : Claim → Claim → Bool) → Lawful goes → (a : Claim) (xs ys : List Claim) → All (Peers a) xs → SameMembers xs ys →
+    (goes : Claim → Claim → Bool) → Lawful goes → (a : Claim) (xs ys : List Claim) → AllByRecursion (Peers a) xs → SameMembers xs ys →
     InOrder goes xs → InOrder goes ys → xs ≡ ys
 
 -- What stands past the end of a list.

@@ -1,6 +1,6 @@
 -- What a house knows of a trade that it has judged, and of its register before it nets one.
 use Rattle.std.proofs.Common.{◌≡◌, ℕ, ◌≤◌, true, false, cond, not, List, [], ◌∷◌, ◌++◌, Err, Result, sym, refl, ap, ◌∙◌, ⊎_elim, arith}
-use Rattle.std.specs.List.{AllByRecursion as All}
+use Rattle.std.specs.List.{AllByRecursion}
 use Rattle.std.proofs.lemmas.Bool.{cases_Bool, true≢false, and_parts, or_parts, not-false, leb-true, ltb-false, cond-true, cond-false}
 use Rattle.book.specs.Refusals.{Refusal}
 use Rattle.book.specs.Faults.{from_one_to}
@@ -67,7 +67,7 @@ judged_first (r ∷ own) rest e =
     ∙ (judged_first own rest (ap is_accepted (sym (cond-false r.applies (refusal r.fault) (answer_by own) q)) ∙ e) ∙ sym (cond-false r.applies _ _ q)))
     (cases_Bool r.applies)
 
-none_first : (own rest : List (Refusal HouseFault)) → All (λ (r : Refusal HouseFault). r.applies ≡ false) own → answer_by (own ++ rest) ≡ answer_by rest
+none_first : (own rest : List (Refusal HouseFault)) → AllByRecursion (λ (r : Refusal HouseFault). r.applies ≡ false) own → answer_by (own ++ rest) ≡ answer_by rest
 none_first [] rest h = refl
 none_first (r ∷ own) rest h = cond-false r.applies _ _ h.0 ∙ none_first own rest h.1
 
