@@ -5,8 +5,7 @@
 #
 # Each attempt is checked by `rt check`, which proves the crates below it first and leaves their tests out. Types, moves
 # and privacy are refused by the front end, which stops before any proof; a making without a check is refused by the
-# proof alone. What the crates' out/ folders have is copied with them, so it is quickest after a check: a minute and a
-# half of one core, and from nothing two minutes.
+# proof alone. What an earlier check left in the crates' out/ folders is copied with them. It takes about a minute.
 set -eu
 here=$(cd "$(dirname "$0")/.." && pwd)
 work=$(mktemp -d)
