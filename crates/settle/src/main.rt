@@ -54,7 +54,10 @@ fn run(rt: &HostRuntime) -> anyhow::Result<bool> {
 fn take<W: Write>(heap: Global, bytes: &[u8], desk: &mut Desk, out: &mut W) -> io::Result<()> {
     for byte in bytes {
         let answer = desk.take(*byte);
-        say(heap, answer, desk, out)?;
+        // Most bytes have no answer.
+        if answer.is_some() {
+            say(heap, answer, desk, out)?;
+        }
     }
     Ok(())
 }
