@@ -38,7 +38,7 @@ pub fn sum_owed(f: &Figures, m: u8) -> u64
 pub fn call<B: Book>(book: &B, f: &Figures, m: u8) -> u64
     requires fit { Fit f.now }
     requires known { m ≤ most_members }
-    ensures { B.Book.good book.now → result ≡ call (state_of f.now (B.Book.ledger book.now)) m }
+    ensures { B.good book.now → result ≡ call (state_of f.now (B.ledger book.now)) m }
 {
     let pledged = holds(book, collateral(m), CASH);
     record_of(f, m).requirement.saturating_sub(pledged)
@@ -48,7 +48,7 @@ pub fn call<B: Book>(book: &B, f: &Figures, m: u8) -> u64
 pub fn is_bound<B: Book>(book: &B, f: &Figures, m: u8) -> bool
     requires fit { Fit f.now }
     requires known { m ≤ most_members }
-    ensures { B.Book.good book.now → result ≡ is_bound (state_of f.now (B.Book.ledger book.now)) m }
+    ensures { B.good book.now → result ≡ is_bound (state_of f.now (B.ledger book.now)) m }
 {
     sum_owed(f, m) > 0 || record_of(f, m).charges > 0 || call(book, f, m) > 0
 }

@@ -2,18 +2,16 @@
 use Rattle.std.proofs.Common.{◌≡◌, ℕ, ◌+◌, ◌*◌, ◌<◌, ◌≤◌, Bool, true, false, cond, not, ◌&&◌, eqb, Some, None, Option, sym, refl, ap, ◌∙◌, subst, ⊎_elim, arith}
 use mathlib.Core.Path.{fun_ext}
 use Rattle.std.proofs.lemmas.Bool.{ne_eqb, eqb-true, eqb-false, cases_lt, and_parts, not-false, ltb-true, leb-true, both_ways}
-use Rattle.book.specs.Faults.{from_one_to}
 use Rattle.book.specs.Ledger.{Ledger, Sound, sum_to}
 use Rattle.book.proofs.Sums.{term_within_sum, sum_more}
 use Rattle.rules.specs.declared.fault.HouseFault.{HouseFault}
 use Rattle.rules.specs.declared.figures.Figures.{Figures}
-use Rattle.rules.specs.Faults.{Answer, accepted, refused, house_layer, is_accepted}
+use Rattle.rules.specs.Faults.{accepted, refused, house_layer, is_accepted}
 use Rattle.rules.specs.Limits.{most_members, most_securities}
-use Rattle.rules.specs.State.{opened, opened_figures}
+use Rattle.rules.specs.State.{opened_figures}
 use Rattle.rules.specs.Events.{book_sum, open_answer, suits}
 use Rattle.rules.specs.Fit.{Fit}
 use Rattle.rules.proofs.Fits.{bounds_kept}
-use Rattle.desk.specs.Passed.{state_of}
 use Rattle.house.specs.Opened.{Opened, OpenedBy, answer_told, bad_counts, first_figures}
 
 pub not_empty : (n : ℕ) (f : ℕ → ℕ) (a : ℕ) → a < n → 0 < f a → false ≡ eqb (sum_to n f) 0

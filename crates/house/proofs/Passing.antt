@@ -1,10 +1,10 @@
 -- The account events: what the house judges by itself and what its book answers are together what the event is answered.
-use Rattle.std.proofs.Common.{◌≡◌, ℕ, ◌+◌, ◌*◌, ◌<◌, ◌≤◌, Bool, true, false, cond, not, ◌||◌, eqb, ltb, leb, List, [], ◌∷◌, ◌++◌, Some, None as no-refusal, Option, sym, refl, ap, ◌∙◌, subst, ⊎_elim, arith}
+use Rattle.std.proofs.Common.{◌≡◌, ℕ, ◌+◌, ◌*◌, ◌<◌, ◌≤◌, Bool, true, false, cond, not, ◌||◌, eqb, ltb, List, [], ◌∷◌, ◌++◌, None as no-refusal, Option, sym, refl, ap, ◌∙◌, subst, ⊎_elim, arith}
 use Rattle.std.proofs.lemmas.Bool.{cases_Bool, cond-true, cond-false, and_parts, not-false, ltb-true, leb-true, ltb-false, lt-leb, le-ltb, ne_eqb, or_from}
 use Rattle.book.specs.Ledger.{Ledger}
 use Rattle.book.specs.Refusals.{Refusal, ◌when◌}
 use Rattle.book.specs.Faults.{fault_number, from_one_to}
-use Rattle.book.specs.Movement.{Movement, Put, Pull, Move, after, movement_number, no_account, no_asset, good_amount}
+use Rattle.book.specs.Movement.{Movement, Put, Pull, Move, after, movement_number, no_account, no_asset}
 use Rattle.book.specs.declared.fault.BookFault.{BookFault}
 use Rattle.book.specs.declared.fault.BookFault.TheVariants as book-fault
 use Rattle.rules.specs.declared.event.Event.{Event}

@@ -117,7 +117,7 @@ impl<B: Book, R: Rank> House<B, R> {
 
     // The movements that the book will still take.
     pub fn space(&self) -> Result<u32, HouseFault>
-        ensures { Tells self.now.refusal accepted (B.Book.ledger self.now.book).space result }
+        ensures { Tells self.now.refusal accepted (B.ledger self.now.book).space result }
     {
         if let Some(fault) = self.refusal {
             return Err(fault);
@@ -147,7 +147,7 @@ impl<B: Book, R: Rank> House<B, R> {
 
     // What a member's collateral lacks of its requirement.
     pub fn call(&self, m: u8) -> Result<u64, HouseFault>
-        ensures { B.Book.good self.now.book → Tells self.now.refusal (member_answer self.now.figures m) (call (state_of self.now.figures (B.Book.ledger self.now.book)) m) result }
+        ensures { B.good self.now.book → Tells self.now.refusal (member_answer self.now.figures m) (call (state_of self.now.figures (B.ledger self.now.book)) m) result }
     {
         if let Some(fault) = self.refusal {
             return Err(fault);
@@ -157,7 +157,7 @@ impl<B: Book, R: Rank> House<B, R> {
 
     // What a member has of an asset in settlement.
     pub fn settlement(&self, m: u8, asset: u8) -> Result<u64, HouseFault>
-        ensures { B.Book.good self.now.book → Tells self.now.refusal (member_asset_answer self.now.figures m asset) ((B.Book.ledger self.now.book).held (settlement m) asset) result }
+        ensures { B.good self.now.book → Tells self.now.refusal (member_asset_answer self.now.figures m asset) ((B.ledger self.now.book).held (settlement m) asset) result }
     {
         if let Some(fault) = self.refusal {
             return Err(fault);
@@ -167,7 +167,7 @@ impl<B: Book, R: Rank> House<B, R> {
 
     // The cash that a member has pledged.
     pub fn collateral(&self, m: u8) -> Result<u64, HouseFault>
-        ensures { B.Book.good self.now.book → Tells self.now.refusal (member_answer self.now.figures m) ((B.Book.ledger self.now.book).held (collateral m) cash) result }
+        ensures { B.good self.now.book → Tells self.now.refusal (member_answer self.now.figures m) ((B.ledger self.now.book).held (collateral m) cash) result }
     {
         if let Some(fault) = self.refusal {
             return Err(fault);
@@ -177,7 +177,7 @@ impl<B: Book, R: Rank> House<B, R> {
 
     // The cash that a member has contributed.
     pub fn contribution(&self, m: u8) -> Result<u64, HouseFault>
-        ensures { B.Book.good self.now.book → Tells self.now.refusal (member_answer self.now.figures m) ((B.Book.ledger self.now.book).held (contribution m) cash) result }
+        ensures { B.good self.now.book → Tells self.now.refusal (member_answer self.now.figures m) ((B.ledger self.now.book).held (contribution m) cash) result }
     {
         if let Some(fault) = self.refusal {
             return Err(fault);
@@ -207,7 +207,7 @@ impl<B: Book, R: Rank> House<B, R> {
 
     // What the pool holds of an asset.
     pub fn pool(&self, asset: u8) -> Result<u64, HouseFault>
-        ensures { B.Book.good self.now.book → Tells self.now.refusal (asset_answer self.now.figures asset) ((B.Book.ledger self.now.book).held pool asset) result }
+        ensures { B.good self.now.book → Tells self.now.refusal (asset_answer self.now.figures asset) ((B.ledger self.now.book).held pool asset) result }
     {
         if let Some(fault) = self.refusal {
             return Err(fault);
@@ -217,7 +217,7 @@ impl<B: Book, R: Rank> House<B, R> {
 
     // What escrow holds of an asset.
     pub fn escrow(&self, asset: u8) -> Result<u64, HouseFault>
-        ensures { B.Book.good self.now.book → Tells self.now.refusal (asset_answer self.now.figures asset) ((B.Book.ledger self.now.book).held escrow asset) result }
+        ensures { B.good self.now.book → Tells self.now.refusal (asset_answer self.now.figures asset) ((B.ledger self.now.book).held escrow asset) result }
     {
         if let Some(fault) = self.refusal {
             return Err(fault);
@@ -227,7 +227,7 @@ impl<B: Book, R: Rank> House<B, R> {
 
     // What the reserve holds of an asset.
     pub fn reserve(&self, asset: u8) -> Result<u64, HouseFault>
-        ensures { B.Book.good self.now.book → Tells self.now.refusal (asset_answer self.now.figures asset) ((B.Book.ledger self.now.book).held reserve asset) result }
+        ensures { B.good self.now.book → Tells self.now.refusal (asset_answer self.now.figures asset) ((B.ledger self.now.book).held reserve asset) result }
     {
         if let Some(fault) = self.refusal {
             return Err(fault);

@@ -16,8 +16,8 @@ use trading::netting;
 impl<B: Book, R: Rank> House<B, R> {
     // An amount from outside into the member's settlement account.
     pub fn bring(&mut self, member: u8, asset: u8, amount: u64) -> Result<(), HouseFault>
-        ensures handled { B.Book.good self.old.book → AnsweredBy self.old.refusal (R.Rank.goes self.old.rank) (Bring member asset amount) self.old.figures (B.Book.ledger self.old.book) (answer_of result) self.new.figures (B.Book.ledger self.new.book) }
-        ensures stays { B.Book.good self.old.book → B.Book.good self.new.book }
+        ensures handled { B.good self.old.book → AnsweredBy self.old.refusal (R.goes self.old.rank) (Bring member asset amount) self.old.figures (B.ledger self.old.book) (answer_of result) self.new.figures (B.ledger self.new.book) }
+        ensures stays { B.good self.old.book → B.good self.new.book }
         ensures rank { self.new.rank ≡ self.old.rank }
         ensures refusal { self.new.refusal ≡ self.old.refusal }
     {
@@ -29,8 +29,8 @@ impl<B: Book, R: Rank> House<B, R> {
 
     // An amount from the member's settlement account to outside.
     pub fn take(&mut self, member: u8, asset: u8, amount: u64) -> Result<(), HouseFault>
-        ensures handled { B.Book.good self.old.book → AnsweredBy self.old.refusal (R.Rank.goes self.old.rank) (Take member asset amount) self.old.figures (B.Book.ledger self.old.book) (answer_of result) self.new.figures (B.Book.ledger self.new.book) }
-        ensures stays { B.Book.good self.old.book → B.Book.good self.new.book }
+        ensures handled { B.good self.old.book → AnsweredBy self.old.refusal (R.goes self.old.rank) (Take member asset amount) self.old.figures (B.ledger self.old.book) (answer_of result) self.new.figures (B.ledger self.new.book) }
+        ensures stays { B.good self.old.book → B.good self.new.book }
         ensures rank { self.new.rank ≡ self.old.rank }
         ensures refusal { self.new.refusal ≡ self.old.refusal }
     {
@@ -42,8 +42,8 @@ impl<B: Book, R: Rank> House<B, R> {
 
     // Cash from outside into the reserve.
     pub fn endow(&mut self, amount: u64) -> Result<(), HouseFault>
-        ensures handled { B.Book.good self.old.book → AnsweredBy self.old.refusal (R.Rank.goes self.old.rank) (Endow amount) self.old.figures (B.Book.ledger self.old.book) (answer_of result) self.new.figures (B.Book.ledger self.new.book) }
-        ensures stays { B.Book.good self.old.book → B.Book.good self.new.book }
+        ensures handled { B.good self.old.book → AnsweredBy self.old.refusal (R.goes self.old.rank) (Endow amount) self.old.figures (B.ledger self.old.book) (answer_of result) self.new.figures (B.ledger self.new.book) }
+        ensures stays { B.good self.old.book → B.good self.new.book }
         ensures rank { self.new.rank ≡ self.old.rank }
         ensures refusal { self.new.refusal ≡ self.old.refusal }
     {
@@ -55,8 +55,8 @@ impl<B: Book, R: Rank> House<B, R> {
 
     // Cash from the member's settlement account to its collateral.
     pub fn pledge(&mut self, member: u8, amount: u64) -> Result<(), HouseFault>
-        ensures handled { B.Book.good self.old.book → AnsweredBy self.old.refusal (R.Rank.goes self.old.rank) (Pledge member amount) self.old.figures (B.Book.ledger self.old.book) (answer_of result) self.new.figures (B.Book.ledger self.new.book) }
-        ensures stays { B.Book.good self.old.book → B.Book.good self.new.book }
+        ensures handled { B.good self.old.book → AnsweredBy self.old.refusal (R.goes self.old.rank) (Pledge member amount) self.old.figures (B.ledger self.old.book) (answer_of result) self.new.figures (B.ledger self.new.book) }
+        ensures stays { B.good self.old.book → B.good self.new.book }
         ensures rank { self.new.rank ≡ self.old.rank }
         ensures refusal { self.new.refusal ≡ self.old.refusal }
     {
@@ -68,8 +68,8 @@ impl<B: Book, R: Rank> House<B, R> {
 
     // Cash from the member's settlement account to its contribution.
     pub fn contribute(&mut self, member: u8, amount: u64) -> Result<(), HouseFault>
-        ensures handled { B.Book.good self.old.book → AnsweredBy self.old.refusal (R.Rank.goes self.old.rank) (Contribute member amount) self.old.figures (B.Book.ledger self.old.book) (answer_of result) self.new.figures (B.Book.ledger self.new.book) }
-        ensures stays { B.Book.good self.old.book → B.Book.good self.new.book }
+        ensures handled { B.good self.old.book → AnsweredBy self.old.refusal (R.goes self.old.rank) (Contribute member amount) self.old.figures (B.ledger self.old.book) (answer_of result) self.new.figures (B.ledger self.new.book) }
+        ensures stays { B.good self.old.book → B.good self.new.book }
         ensures rank { self.new.rank ≡ self.old.rank }
         ensures refusal { self.new.refusal ≡ self.old.refusal }
     {
@@ -81,8 +81,8 @@ impl<B: Book, R: Rank> House<B, R> {
 
     // Cash from the member's collateral to its settlement account.
     pub fn refund(&mut self, member: u8, amount: u64) -> Result<(), HouseFault>
-        ensures handled { B.Book.good self.old.book → AnsweredBy self.old.refusal (R.Rank.goes self.old.rank) (Refund member amount) self.old.figures (B.Book.ledger self.old.book) (answer_of result) self.new.figures (B.Book.ledger self.new.book) }
-        ensures stays { B.Book.good self.old.book → B.Book.good self.new.book }
+        ensures handled { B.good self.old.book → AnsweredBy self.old.refusal (R.goes self.old.rank) (Refund member amount) self.old.figures (B.ledger self.old.book) (answer_of result) self.new.figures (B.ledger self.new.book) }
+        ensures stays { B.good self.old.book → B.good self.new.book }
         ensures rank { self.new.rank ≡ self.old.rank }
         ensures refusal { self.new.refusal ≡ self.old.refusal }
     {
@@ -94,8 +94,8 @@ impl<B: Book, R: Rank> House<B, R> {
 
     // A trade of today, netted into the lines of both sides.
     pub fn novate(&mut self, trade: Trade) -> Result<(), HouseFault>
-        ensures handled { B.Book.good self.old.book → AnsweredBy self.old.refusal (R.Rank.goes self.old.rank) (Novate trade) self.old.figures (B.Book.ledger self.old.book) (answer_of result) self.new.figures (B.Book.ledger self.new.book) }
-        ensures stays { B.Book.good self.old.book → B.Book.good self.new.book }
+        ensures handled { B.good self.old.book → AnsweredBy self.old.refusal (R.goes self.old.rank) (Novate trade) self.old.figures (B.ledger self.old.book) (answer_of result) self.new.figures (B.ledger self.new.book) }
+        ensures stays { B.good self.old.book → B.good self.new.book }
         ensures rank { self.new.rank ≡ self.old.rank }
         ensures refusal { self.new.refusal ≡ self.old.refusal }
     {
@@ -107,8 +107,8 @@ impl<B: Book, R: Rank> House<B, R> {
 
     // The closing price of a security.
     pub fn price(&mut self, security: u8, price: u32) -> Result<(), HouseFault>
-        ensures handled { B.Book.good self.old.book → AnsweredBy self.old.refusal (R.Rank.goes self.old.rank) (Price security price) self.old.figures (B.Book.ledger self.old.book) (answer_of result) self.new.figures (B.Book.ledger self.new.book) }
-        ensures stays { B.Book.good self.old.book → B.Book.good self.new.book }
+        ensures handled { B.good self.old.book → AnsweredBy self.old.refusal (R.goes self.old.rank) (Price security price) self.old.figures (B.ledger self.old.book) (answer_of result) self.new.figures (B.ledger self.new.book) }
+        ensures stays { B.good self.old.book → B.good self.new.book }
         ensures rank { self.new.rank ≡ self.old.rank }
         ensures refusal { self.new.refusal ≡ self.old.refusal }
     {

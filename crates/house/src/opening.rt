@@ -20,7 +20,7 @@ const MOST_SECURITIES: u8 = 16;
 
 // Whether an account holds nothing.
 fn is_bare<B: Book>(book: &B, account: u8) -> bool
-    ensures { B.Book.good book.now → result ≡ (sum_to (B.Book.ledger book.now).assets ((B.Book.ledger book.now).held account) == 0) }
+    ensures { B.good book.now → result ≡ (sum_to (B.ledger book.now).assets ((B.ledger book.now).held account) == 0) }
 {
     for asset in 0..book.assets() {
         if holds(book, account, asset) > 0 {
@@ -32,7 +32,7 @@ fn is_bare<B: Book>(book: &B, account: u8) -> bool
 
 // Whether all balances are 0.
 fn is_empty<B: Book>(book: &B) -> bool
-    ensures { B.Book.good book.now → result ≡ (book_sum (B.Book.ledger book.now) == 0) }
+    ensures { B.good book.now → result ≡ (book_sum (B.ledger book.now) == 0) }
 {
     for account in 0..book.accounts() {
         if !is_bare(book, account) {
@@ -52,14 +52,14 @@ fn bad_counts(members: u8, securities: u8) -> bool
 fn suits<B: Book>(book: &B, members: u8, securities: u8) -> bool
     requires few_members { members ≤ most_members }
     requires few_securities { securities ≤ most_securities }
-    ensures { B.Book.good book.now → result ≡ suits (B.Book.ledger book.now) members securities }
+    ensures { B.good book.now → result ≡ suits (B.ledger book.now) members securities }
 {
     book.accounts() == 3 * members + 3 && book.assets() == securities + 1 && is_empty(book)
 }
 
 // Why a house of these counts cannot be opened over a book, if it cannot.
 fn refusal_to_open<B: Book>(book: &B, members: u8, securities: u8) -> Option<HouseFault>
-    ensures answer { B.Book.good book.now → answer_told result ≡ open_answer (B.Book.ledger book.now) members securities }
+    ensures answer { B.good book.now → answer_told result ≡ open_answer (B.ledger book.now) members securities }
     ensures counts { result ≡ None → bad_counts members securities ≡ false }
 {
     if bad_counts(members, securities) {
@@ -89,7 +89,7 @@ struct Beginning {
 
 // Whether a house of these counts is refused over a book, and its figures.
 fn begin<B: Book>(book: &B, members: u8, securities: u8) -> Beginning
-    ensures opened { B.Book.good book.now → OpenedBy (B.Book.ledger book.now) members securities result.refusal result.figures }
+    ensures opened { B.good book.now → OpenedBy (B.ledger book.now) members securities result.refusal result.figures }
     ensures fit { Fit result.figures }
 {
     let refusal = refusal_to_open(book, members, securities);
@@ -101,7 +101,7 @@ impl<B: Book, R: Rank> House<B, R> {
     // A house of so many members and securities over a book, in any case. One that is refused answers every later call by its
     // refusal, but for `close`; nobody reads its figures.
     pub fn open(book: B, rank: R, members: u8, securities: u8) -> House<B, R>
-        ensures opened { B.Book.good book → OpenedBy (B.Book.ledger book) members securities result.refusal result.figures }
+        ensures opened { B.good book → OpenedBy (B.ledger book) members securities result.refusal result.figures }
         ensures book { result.book ≡ book }
         ensures rank { result.rank ≡ rank }
     {

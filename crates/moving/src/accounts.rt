@@ -24,8 +24,8 @@ pub fn bring<B: Book>(
     amount: u64,
 ) -> Result<(), HouseFault>
     requires { Fit f.now }
-    ensures passed { B.Book.good book.old → Passed (bring_judged f.now member asset amount) (Put (settlement member) asset amount) (B.Book.ledger book.old) (answer_of result) (B.Book.ledger book.new) }
-    ensures stays { B.Book.good book.old → B.Book.good book.new }
+    ensures passed { B.good book.old → Passed (bring_judged f.now member asset amount) (Put (settlement member) asset amount) (B.ledger book.old) (answer_of result) (B.ledger book.new) }
+    ensures stays { B.good book.old → B.good book.new }
 {
     if no_member(f, member) {
         return Err(HouseFault::NoMember);
@@ -49,8 +49,8 @@ pub fn take<B: Book>(
     amount: u64,
 ) -> Result<(), HouseFault>
     requires { Fit f.now }
-    ensures passed { B.Book.good book.old → Passed (take_judged (state_of f.now (B.Book.ledger book.old)) member asset amount) (Pull (settlement member) asset amount) (B.Book.ledger book.old) (answer_of result) (B.Book.ledger book.new) }
-    ensures stays { B.Book.good book.old → B.Book.good book.new }
+    ensures passed { B.good book.old → Passed (take_judged (state_of f.now (B.ledger book.old)) member asset amount) (Pull (settlement member) asset amount) (B.ledger book.old) (answer_of result) (B.ledger book.new) }
+    ensures stays { B.good book.old → B.good book.new }
 {
     if no_member(f, member) {
         return Err(HouseFault::NoMember);
@@ -70,8 +70,8 @@ pub fn take<B: Book>(
 
 // Cash from outside into the reserve.
 pub fn endow<B: Book>(book: &mut B, amount: u64) -> Result<(), HouseFault>
-    ensures passed { B.Book.good book.old → Passed (endow_judged amount) (Put reserve cash amount) (B.Book.ledger book.old) (answer_of result) (B.Book.ledger book.new) }
-    ensures stays { B.Book.good book.old → B.Book.good book.new }
+    ensures passed { B.good book.old → Passed (endow_judged amount) (Put reserve cash amount) (B.ledger book.old) (answer_of result) (B.ledger book.new) }
+    ensures stays { B.good book.old → B.good book.new }
 {
     if bad_amount(amount) {
         return Err(HouseFault::BadAmount);
@@ -83,8 +83,8 @@ pub fn endow<B: Book>(book: &mut B, amount: u64) -> Result<(), HouseFault>
 // Cash from the member's settlement account to its collateral.
 pub fn pledge<B: Book>(book: &mut B, f: &Figures, member: u8, amount: u64) -> Result<(), HouseFault>
     requires { Fit f.now }
-    ensures passed { B.Book.good book.old → Passed (pledge_judged f.now member amount) (Move (settlement member) (collateral member) cash amount) (B.Book.ledger book.old) (answer_of result) (B.Book.ledger book.new) }
-    ensures stays { B.Book.good book.old → B.Book.good book.new }
+    ensures passed { B.good book.old → Passed (pledge_judged f.now member amount) (Move (settlement member) (collateral member) cash amount) (B.ledger book.old) (answer_of result) (B.ledger book.new) }
+    ensures stays { B.good book.old → B.good book.new }
 {
     if no_member(f, member) {
         return Err(HouseFault::NoMember);
@@ -104,8 +104,8 @@ pub fn contribute<B: Book>(
     amount: u64,
 ) -> Result<(), HouseFault>
     requires { Fit f.now }
-    ensures passed { B.Book.good book.old → Passed (pledge_judged f.now member amount) (Move (settlement member) (contribution member) cash amount) (B.Book.ledger book.old) (answer_of result) (B.Book.ledger book.new) }
-    ensures stays { B.Book.good book.old → B.Book.good book.new }
+    ensures passed { B.good book.old → Passed (pledge_judged f.now member amount) (Move (settlement member) (contribution member) cash amount) (B.ledger book.old) (answer_of result) (B.ledger book.new) }
+    ensures stays { B.good book.old → B.good book.new }
 {
     if no_member(f, member) {
         return Err(HouseFault::NoMember);
@@ -120,8 +120,8 @@ pub fn contribute<B: Book>(
 // Cash from the member's collateral to its settlement account, as long as the requirement stays covered.
 pub fn refund<B: Book>(book: &mut B, f: &Figures, member: u8, amount: u64) -> Result<(), HouseFault>
     requires { Fit f.now }
-    ensures passed { B.Book.good book.old → Passed (refund_judged (state_of f.now (B.Book.ledger book.old)) member amount) (Move (collateral member) (settlement member) cash amount) (B.Book.ledger book.old) (answer_of result) (B.Book.ledger book.new) }
-    ensures stays { B.Book.good book.old → B.Book.good book.new }
+    ensures passed { B.good book.old → Passed (refund_judged (state_of f.now (B.ledger book.old)) member amount) (Move (collateral member) (settlement member) cash amount) (B.ledger book.old) (answer_of result) (B.ledger book.new) }
+    ensures stays { B.good book.old → B.good book.new }
 {
     if no_member(f, member) {
         return Err(HouseFault::NoMember);

@@ -66,7 +66,7 @@ pub fn owed_of(f: &Figures, m: u8) -> Result<u64, HouseFault>
 
 pub fn call_of<B: Book>(book: &B, f: &Figures, m: u8) -> Result<u64, HouseFault>
     requires { Fit f.now }
-    ensures { B.Book.good book.now → Tells None (member_answer f.now m) (call (state_of f.now (B.Book.ledger book.now)) m) result }
+    ensures { B.good book.now → Tells None (member_answer f.now m) (call (state_of f.now (B.ledger book.now)) m) result }
 {
     if no_member(f, m) {
         return Err(HouseFault::NoMember);
@@ -99,7 +99,7 @@ pub fn close_of(f: &Figures, security: u8) -> Result<u32, HouseFault>
 
 pub fn settlement_of<B: Book>(book: &B, f: &Figures, m: u8, asset: u8) -> Result<u64, HouseFault>
     requires { Fit f.now }
-    ensures { B.Book.good book.now → Tells None (member_asset_answer f.now m asset) ((B.Book.ledger book.now).held (settlement m) asset) result }
+    ensures { B.good book.now → Tells None (member_asset_answer f.now m asset) ((B.ledger book.now).held (settlement m) asset) result }
 {
     if no_member(f, m) {
         return Err(HouseFault::NoMember);
@@ -112,7 +112,7 @@ pub fn settlement_of<B: Book>(book: &B, f: &Figures, m: u8, asset: u8) -> Result
 
 pub fn collateral_of<B: Book>(book: &B, f: &Figures, m: u8) -> Result<u64, HouseFault>
     requires { Fit f.now }
-    ensures { B.Book.good book.now → Tells None (member_answer f.now m) ((B.Book.ledger book.now).held (collateral m) cash) result }
+    ensures { B.good book.now → Tells None (member_answer f.now m) ((B.ledger book.now).held (collateral m) cash) result }
 {
     if no_member(f, m) {
         return Err(HouseFault::NoMember);
@@ -122,7 +122,7 @@ pub fn collateral_of<B: Book>(book: &B, f: &Figures, m: u8) -> Result<u64, House
 
 pub fn contribution_of<B: Book>(book: &B, f: &Figures, m: u8) -> Result<u64, HouseFault>
     requires { Fit f.now }
-    ensures { B.Book.good book.now → Tells None (member_answer f.now m) ((B.Book.ledger book.now).held (contribution m) cash) result }
+    ensures { B.good book.now → Tells None (member_answer f.now m) ((B.ledger book.now).held (contribution m) cash) result }
 {
     if no_member(f, m) {
         return Err(HouseFault::NoMember);
@@ -137,7 +137,7 @@ pub fn own_balance<B: Book>(
     account: u8,
     asset: u8,
 ) -> Result<u64, HouseFault>
-    ensures { B.Book.good book.now → Tells None (asset_answer f.now asset) ((B.Book.ledger book.now).held account asset) result }
+    ensures { B.good book.now → Tells None (asset_answer f.now asset) ((B.ledger book.now).held account asset) result }
 {
     if no_asset(f, asset) {
         return Err(HouseFault::NoAsset);

@@ -5,8 +5,8 @@ pub returns : goal.returns
 returns g c =
     let m = c.args.members in
     let s = c.args.securities in
-    let refusal = c.refusal-to-open-refusal in
-    let figures = c.first-figures-figures in
+    let refusal = c.refusal_to_open-refusal in
+    let figures = c.first_figures-figures in
     record {
       opened = λ good.
           opened_by (g.B.Book.ledger c.args.book.now) m s refusal.result _ (g.B.Book.sound c.args.book.now good) figures.ensures (refusal.ensures.answer good);

@@ -4,8 +4,8 @@ use Rattle.register.specs.Netting.{trade_too_large}
 use Rattle.trading.proofs.Trades.{register_kept, trade_sound}
 use Rattle.trading.proofs.judging.line_too_large.Goals as goal
 
-pub trade-too-large-requires : goal.trade-too-large-requires
-trade-too-large-requires c =
+pub trade_too_large-requires : goal.trade_too_large-requires
+trade_too_large-requires c =
     let f = c.args.f.now in
     let t = c.args.trade in
     record {

@@ -11,12 +11,12 @@ net-requires c =
     record {
       register = register_kept f c.requires.fit;
       trade = (trade_sound f t c.requires.fit c.requires.trade).judged;
-      room = subst (λ d. Room f.register d t) (sym c.due-day-due.ensures) (room_found f t c.requires.netting);
+      room = subst (λ d. Room f.register d t) (sym c.due_day-due.ensures) (room_found f t c.requires.netting);
     }
 
 pub returns : goal.returns
 returns c =
     let f = c.args.f.now in
     let t = c.args.trade in
-    let traded = due_today f t c.due-day-due.result c.net.new.self c.due-day-due.ensures c.net.ensures in
+    let traded = due_today f t c.due_day-due.result c.net.new.self c.due_day-due.ensures c.net.ensures in
     record { figures = traded; fit = subst Fit (sym traded) (fit_netted f t c.requires.trade c.requires.netting c.requires.fit) }

@@ -9,7 +9,7 @@ returns g c =
     let b = g.B.Book.ledger h.book in
     record {
       handled = λ good.
-          answered h.refusal c.in-default.is rank _ _ _ _ h.figures b (g.B.Book.ledger c.endow.new.book)
+          answered h.refusal c.in_default.is rank _ _ _ _ h.figures b (g.B.Book.ledger c.endow.new.book)
           (endow_asks rank h.figures b c.args.amount) (c.endow.ensures.passed good);
       stays = c.endow.ensures.stays;
       rank = refl {a = h.rank};

@@ -4,5 +4,5 @@ use Rattle.house.proofs.house.House.novate.Goals as goal
 pub novate-requires : goal.novate-requires
 novate-requires g c = fit_out _ c.args.self.now.fit
 
-pub invariant-of-self : goal.invariant-of-self
-invariant-of-self g c = (∣ c.novate.ensures.fit ∣₁, tt)
+pub invariant_of-self : goal.invariant_of-self
+invariant_of-self g c = record { fit = ∣ c.novate.ensures.fit ∣₁ }

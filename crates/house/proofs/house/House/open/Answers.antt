@@ -1,4 +1,4 @@
 use Rattle.house.proofs.house.House.open.Goals as goal
 
-pub invariant-of-result : goal.invariant-of-result
-invariant-of-result g c = (∣ c.begin-refusal.ensures.fit ∣₁, tt)
+pub invariant_of-result : goal.invariant_of-result
+invariant_of-result g c = record { fit = ∣ c.begin-refusal.ensures.fit ∣₁ }

@@ -13,7 +13,7 @@ returns g c =
     let b = g.B.Book.ledger h.book in
     record {
       handled = λ good.
-          answered h.refusal c.in-default.is rank _ _ _ _ h.figures b (g.B.Book.ledger c.pledge.new.book)
+          answered h.refusal c.in_default.is rank _ _ _ _ h.figures b (g.B.Book.ledger c.pledge.new.book)
           (pledge_asks rank h.figures b c.args.member c.args.amount) (c.pledge.ensures.passed good);
       stays = c.pledge.ensures.stays;
       rank = refl {a = h.rank};

@@ -13,7 +13,7 @@ returns g c =
     let b = g.B.Book.ledger h.book in
     record {
       handled = λ good.
-          answered h.refusal c.in-default.is rank _ _ _ _ h.figures b (g.B.Book.ledger c.refund.new.book)
+          answered h.refusal c.in_default.is rank _ _ _ _ h.figures b (g.B.Book.ledger c.refund.new.book)
           (refund_asks rank h.figures b c.args.member c.args.amount) (c.refund.ensures.passed good);
       stays = c.refund.ensures.stays;
       rank = refl {a = h.rank};
