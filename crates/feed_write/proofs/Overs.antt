@@ -5,8 +5,8 @@ use Rattle.std.proofs.lemmas.List.{length-append, length-take-le, append_assoc, 
 use Rattle.feed_write.specs.Written.{over, Wrote}
 use Rattle.feed_write.proofs.Stands.{Stands}
 
-pub over_from_putMid : (p k : ℕ) (xs ys zs : List ℕ) → ys ≡ zs → k ≡ length zs → put_mid p k xs ys ≡ over xs p zs
-over_from_putMid p k xs ys zs e l =
+pub over_from_put_mid : (p k : ℕ) (xs ys zs : List ℕ) → ys ≡ zs → k ≡ length zs → put_mid p k xs ys ≡ over xs p zs
+over_from_put_mid p k xs ys zs e l =
     ap (λ w. take p xs ++ (w ++ drop k (drop p xs))) e
     ∙ ap (λ w. take p xs ++ (zs ++ w)) (drop-drop k p xs ∙ ap (λ n. drop (p + n) xs) l)
 

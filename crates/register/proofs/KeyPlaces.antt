@@ -76,8 +76,8 @@ place_filed g k l =
     cond_both (known g k) g.count (suc g.count) (λ (n : ℕ). place_of g k < n) (λ e. ltb-true _ _ e) (λ e. omega arith)
 
 -- One element of a list is another.
-pub getD_with : {A : Type 0} (xs : List A) (i : ℕ) (v d : A) → i < length xs → (j : ℕ) → get_or (set xs i v) j d ≡ cond (eqb j i) v (get_or xs j d)
-getD_with xs i v d l j =
+pub get_or_with : {A : Type 0} (xs : List A) (i : ℕ) (v d : A) → i < length xs → (j : ℕ) → get_or (set xs i v) j d ≡ cond (eqb j i) v (get_or xs j d)
+get_or_with xs i v d l j =
     ⊎_elim
     (λ (e : j ≡ i). ap (λ k. get_or (set xs i v) k d) e ∙ (get_or-set_same xs i v d l ∙ sym (ap (λ b. cond b v (get_or xs j d)) (eq-eqb j i e))))
     (λ (n : j ≡ i → ⊥). get_or-set_other xs i j v d n ∙ sym (ap (λ b. cond b v (get_or xs j d)) (ne_eqb j i n)))
@@ -86,7 +86,7 @@ getD_with xs i v d l j =
 -- A line filed under its key, where there is a place.
 module _ (g : Register) (k : Key) (l : Line) (is : l.claim.key ≡ k) (long : place_of g k < length g.lines) where
   pub line_filed : (i : ℕ) → line (filed g k l) i ≡ cond (eqb i (place_of g k)) l (line g i)
-  line_filed i = getD_with g.lines (place_of g k) l no_line long i
+  line_filed i = get_or_with g.lines (place_of g k) l no_line long i
 
   pub key_filed : (i : ℕ) → i < g.count → key (filed g k l) i ≡ key g i
   key_filed i b =

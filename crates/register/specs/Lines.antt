@@ -31,16 +31,16 @@ abbrev pub key : Register → ℕ → Key
 key g i = (line g i).claim.key
 
 -- z 0 + .. + z (n - 1)
-abbrev pub sumZ : ℕ → (ℕ → ℤ) → ℤ
-sumZ zero z = pos 0
-sumZ (suc n) z = sumZ n z +ℤ z n
+abbrev pub sum_z : ℕ → (ℕ → ℤ) → ℤ
+sum_z zero z = pos 0
+sum_z (suc n) z = sum_z n z +ℤ z n
 
 -- The sum of a number over the lines of the register that pass a test, and of a signed number.
 abbrev pub sum_if : (Line → Bool) → (Line → ℕ) → Register → ℕ
 sum_if p n g = sum_to g.count (λ i. cond (p (line g i)) (n (line g i)) 0)
 
-abbrev pub sumZ_if : (Line → Bool) → (Line → ℤ) → Register → ℤ
-sumZ_if p z g = sumZ g.count (λ i. cond (p (line g i)) (z (line g i)) (pos 0))
+abbrev pub sum_z_if : (Line → Bool) → (Line → ℤ) → Register → ℤ
+sum_z_if p z g = sum_z g.count (λ i. cond (p (line g i)) (z (line g i)) (pos 0))
 
 -- Lines of a due day and security, by side; lines of a member; lines due by a day.
 abbrev pub delivers : Line → Bool

@@ -18,7 +18,7 @@ use Rattle.rules.specs.declared.figures.Figures.{Figures}
 use Rattle.register.specs.Limits.{register_places}
 use Rattle.rules.specs.Limits.{last_day}
 use Rattle.rules.specs.State.{State, pool, cash, no_member, member, position, close, today, with_register, with_records, with_figures, put_member, at_position, at_requirement}
-use Rattle.register.specs.Lines.{no_line, line, key, delivers, receives, in_group, due_by, sumZ, sumZ_if}
+use Rattle.register.specs.Lines.{no_line, line, key, delivers, receives, in_group, due_by, sum_z, sum_z_if}
 use Rattle.register.specs.Netting.{due_day}
 use Rattle.rules.specs.Run.{Act, close_line, compensate, require, noted, after_act, performed, places_if, all_members, required, line_closed, line_served, compensation_due}
 use Rattle.rules.specs.Day.{traded_today, requirements, finished, dropped, next_morning, closed_day, ended_day, compensation, cash_settlements}
@@ -26,10 +26,10 @@ use Rattle.register.specs.Dropping.{lines_if}
 use Rattle.rules.specs.Events.{is_morning, is_shut}
 use Rattle.rules.specs.Fit.{Shape, Known}
 use Rattle.rules.proofs.Written.{get_or_with}
-use Rattle.rules.proofs.Sums.{sumZ_same, sumZ_zero, positions_with, partZ}
+use Rattle.rules.proofs.Sums.{sum_z_same, sum_z_zero, positions_with, part_z}
 use Rattle.rules.proofs.Acts.{performed_append}
 use Rattle.rules.proofs.Invariants.{SoundLines, settled_day, Rested}
-use Rattle.rules.proofs.Groups.{same_if, none_if, known_like, sided, sided_whole, sumZ_plus, sumZ_times, EvenLines, Even, even_priced, even_rested, rested_even}
+use Rattle.rules.proofs.Groups.{same_if, none_if, known_like, sided, sided_whole, sum_z_plus, sum_z_times, EvenLines, Even, even_priced, even_rested, rested_even}
 
 -- Acts on the places of the lines that pass a test: what holds at first and is kept at each place, holds at the end.
 pub places_induct : (s : State) (f : ℕ → Act) (p : Line → Bool) (g : Register) (P : ℕ → State → Type 0) (most : ℕ)
@@ -189,23 +189,23 @@ module _ (p : Line → Bool) (g : Register) where
       twice : (k : ℕ) → k < length (lines_if p g n) → (get_or (lines_if p g n) k no_line).claim.key ≡ key g n → ⊥
       twice k l e = let r = kept_source n k l in let m = r.1 in let z = d r.0 n (omega arith) (omega arith) (ap (λ (x : Line). x.claim.key) (sym r.3) ∙ e) in omega arith
 
-  kept_sum : (z : Line → ℤ) (n : ℕ) → sumZ (length (lines_if p g n)) (λ i. z (get_or (lines_if p g n) i no_line)) ≡ sumZ n (λ i. cond (p (line g i)) (z (line g i)) (pos 0))
+  kept_sum : (z : Line → ℤ) (n : ℕ) → sum_z (length (lines_if p g n)) (λ i. z (get_or (lines_if p g n) i no_line)) ≡ sum_z n (λ i. cond (p (line g i)) (z (line g i)) (pos 0))
   kept_sum z zero = refl
   kept_sum z (suc n) = go (kept_sum z n) (p (line g n))
     where
       all : List Line → ℤ
-      all xs = sumZ (length xs) (λ i. z (get_or xs i no_line))
+      all xs = sum_z (length xs) (λ i. z (get_or xs i no_line))
 
       push_sum : (xs : List Line) (y : Line) → all (xs ++ y ∷ []) ≡ all xs +ℤ z y
       push_sum xs y =
-          ap (λ k. sumZ k (λ i. z (get_or (xs ++ y ∷ []) i no_line))) (let e = length_push xs y in let q : length (xs ++ y ∷ []) ≡ suc (length xs) = omega arith in q)
-          ∙ both _ _ _ _ (sumZ_same (length xs) _ _ (λ i l. ap z (get_or_append_left xs (y ∷ []) no_line i l))) (ap z (get_or_push xs y no_line (length xs) refl))
+          ap (λ k. sum_z k (λ i. z (get_or (xs ++ y ∷ []) i no_line))) (let e = length_push xs y in let q : length (xs ++ y ∷ []) ≡ suc (length xs) = omega arith in q)
+          ∙ both _ _ _ _ (sum_z_same (length xs) _ _ (λ i l. ap z (get_or_append_left xs (y ∷ []) no_line i l))) (ap z (get_or_push xs y no_line (length xs) refl))
         where
           both : (a b c d : ℤ) → a ≡ b → c ≡ d → a +ℤ c ≡ b +ℤ d
           both a b c d e q = omega (arith, ints)
 
-      go : all (lines_if p g n) ≡ sumZ n (λ i. cond (p (line g i)) (z (line g i)) (pos 0)) → (b : Bool)
-          → all (lines_if p g n ++ cond b (line g n ∷ []) []) ≡ sumZ n (λ i. cond (p (line g i)) (z (line g i)) (pos 0)) +ℤ cond b (z (line g n)) (pos 0)
+      go : all (lines_if p g n) ≡ sum_z n (λ i. cond (p (line g i)) (z (line g i)) (pos 0)) → (b : Bool)
+          → all (lines_if p g n ++ cond b (line g n ∷ []) []) ≡ sum_z n (λ i. cond (p (line g i)) (z (line g i)) (pos 0)) +ℤ cond b (z (line g n)) (pos 0)
       go h true = push_sum (lines_if p g n) (line g n) ∙ ap (λ x. x +ℤ z (line g n)) h
       go h false = ap all (append-nil (lines_if p g n)) ∙ (h ∙ sym (+ℤ_idr _))
 
@@ -276,12 +276,12 @@ module _ (f : Figures) (ls : List Line) (e : EvenLines f) (c : Rewritten (traded
 
   -- A number that is 0 for finished lines adds up over the lines that stay as over all.
   stayed_sum : (p : Line → Bool) (z : Line → ℤ) → ((j : ℕ) → j < f.register.count → finished f (new j) ≡ true → z (new j) ≡ pos 0)
-      → sumZ_if p z morning.register ≡ sumZ f.register.count (λ j. partZ p z (new j))
+      → sum_z_if p z morning.register ≡ sum_z f.register.count (λ j. part_z p z (new j))
   stayed_sum p z none =
-      sumZ_same (length stayed) _ _ (λ i l. ap (partZ p z) (line_stayed i l))
-      ∙ (kept_sum stays closed.register (partZ p z) f.register.count
-      ∙ sumZ_same f.register.count _ _ (λ j l.
-      ap (λ (x : Line). cond (stays x) (partZ p z x) (pos 0)) (line_closing j l) ∙ one (finished f (new j)) (p (new j)) (z (new j)) (none j l)))
+      sum_z_same (length stayed) _ _ (λ i l. ap (part_z p z) (line_stayed i l))
+      ∙ (kept_sum stays closed.register (part_z p z) f.register.count
+      ∙ sum_z_same f.register.count _ _ (λ j l.
+      ap (λ (x : Line). cond (stays x) (part_z p z x) (pos 0)) (line_closing j l) ∙ one (finished f (new j)) (p (new j)) (z (new j)) (none j l)))
     where
       one : (a b : Bool) (v : ℤ) → (a ≡ true → v ≡ pos 0) → cond (not a) (cond b v (pos 0)) (pos 0) ≡ cond b v (pos 0)
       one true true v h = sym (h refl)
@@ -353,12 +353,12 @@ module _ (f : Figures) (ls : List Line) (e : EvenLines f) (c : Rewritten (traded
       ∙ sym (ap (λ (x : Line). x.price) b.2))
 
   -- Rests add up as before.
-  even_morning : (d t : ℕ) → sumZ_if (in_group d t) sided morning.register ≡ pos 0
+  even_morning : (d t : ℕ) → sum_z_if (in_group d t) sided morning.register ≡ pos 0
   even_morning d t =
       stayed_sum (in_group d t) sided (λ j l h. sided_none (new j) (eqb-true (new j).rest 0 (and_parts (due_by (today f) (new j)) (eqb (new j).rest 0) h).1))
-      ∙ (sumZ_same f.register.count _ _ (λ j l.
+      ∙ (sum_z_same f.register.count _ _ (λ j l.
       cond_both (traded_today f (line f.register j)) (line_closed f (line f.register j)) (line f.register j)
-      (λ (x : Line). partZ (in_group d t) sided x ≡ partZ (in_group d t) sided (line f.register j)) (λ h. refl) (λ h. refl))
+      (λ (x : Line). part_z (in_group d t) sided x ≡ part_z (in_group d t) sided (line f.register j)) (λ h. refl) (λ h. refl))
       ∙ e.even d t)
 
   -- A finished line is of an earlier day, and has no difference.
@@ -374,45 +374,45 @@ module _ (f : Figures) (ls : List Line) (e : EvenLines f) (c : Rewritten (traded
       e.settled j l (omega arith))
 
   -- Netted quantities of today's lines of a security add to 0: they are their rests.
-  even_quantities : (t : ℕ) → sumZ_if (in_group (due_day (today f)) t) (λ l. l.claim.quantity) f.register ≡ pos 0
+  even_quantities : (t : ℕ) → sum_z_if (in_group (due_day (today f)) t) (λ l. l.claim.quantity) f.register ≡ pos 0
   even_quantities t =
-      sumZ_same f.register.count _ _ (λ j l.
+      sum_z_same f.register.count _ _ (λ j l.
       same_if (in_group (due_day (today f)) t (line f.register j)) _ _ (λ h.
       let a = eqb-true (key f.register j).due (due_day (today f)) (and_parts (eqb (key f.register j).due (due_day (today f))) (eqb (key f.register j).security t) h).0 in
       sym (sided_whole (line f.register j) (e.whole j l (omega arith)))))
       ∙ e.even (due_day (today f)) t
 
   -- The new differences of today's lines of a security: money less quantity at the closing price.
-  level_today : (t : ℕ) → sumZ f.register.count (λ j. partZ (in_group (due_day (today f)) t) (λ l. l.difference) (new j)) ≡ pos 0
+  level_today : (t : ℕ) → sum_z f.register.count (λ j. part_z (in_group (due_day (today f)) t) (λ l. l.difference) (new j)) ≡ pos 0
   level_today t =
       less _ _
-      (sym (e.fresh t) ∙ (sumZ_same f.register.count _ (λ j. part j +ℤ quantity j *ℤ pos (close f t)) (λ j l. at j) ∙ sumZ_plus f.register.count part _))
-      (sumZ_times f.register.count quantity (pos (close f t)) ∙ (ap (λ x. x *ℤ pos (close f t)) (even_quantities t) ∙ zero-*ℤ (pos (close f t))))
+      (sym (e.fresh t) ∙ (sum_z_same f.register.count _ (λ j. part j +ℤ quantity j *ℤ pos (close f t)) (λ j l. at j) ∙ sum_z_plus f.register.count part _))
+      (sum_z_times f.register.count quantity (pos (close f t)) ∙ (ap (λ x. x *ℤ pos (close f t)) (even_quantities t) ∙ zero-*ℤ (pos (close f t))))
     where
       part : ℕ → ℤ
-      part j = partZ (in_group (due_day (today f)) t) (λ l. l.difference) (new j)
+      part j = part_z (in_group (due_day (today f)) t) (λ l. l.difference) (new j)
 
       quantity : ℕ → ℤ
-      quantity j = partZ (in_group (due_day (today f)) t) (λ l. l.claim.quantity) (line f.register j)
+      quantity j = part_z (in_group (due_day (today f)) t) (λ l. l.claim.quantity) (line f.register j)
 
       less : (S T : ℤ) → pos 0 ≡ S +ℤ T → T ≡ pos 0 → S ≡ pos 0
       less S T p q = omega (arith, ints)
 
-      at : (j : ℕ) → partZ (in_group (due_day (today f)) t) (λ l. l.money) (line f.register j) ≡ part j +ℤ quantity j *ℤ pos (close f t)
+      at : (j : ℕ) → part_z (in_group (due_day (today f)) t) (λ l. l.money) (line f.register j) ≡ part j +ℤ quantity j *ℤ pos (close f t)
       at j =
           closed_parts f t (line f.register j) (traded_today f (line f.register j)) (eqb (key f.register j).security t) (eqb-true (key f.register j).security t)
           ∙ ap (λ (b : Bool). cond b (new j).difference (pos 0) +ℤ quantity j *ℤ pos (close f t))
           (ap (λ (k : Key). eqb k.due (due_day (today f)) && eqb k.security t) (sym (key_new j)))
 
-  level_morning : (d t : ℕ) → sumZ_if (in_group d t) (λ l. l.difference) morning.register ≡ pos 0
+  level_morning : (d t : ℕ) → sum_z_if (in_group d t) (λ l. l.difference) morning.register ≡ pos 0
   level_morning d t =
       stayed_sum (in_group d t) (λ l. l.difference) no_difference
       ∙ ⊎_elim
-      (λ (q : d ≡ due_day (today f)). ap (λ x. sumZ f.register.count (λ j. partZ (in_group x t) (λ l. l.difference) (new j))) q ∙ level_today t)
+      (λ (q : d ≡ due_day (today f)). ap (λ x. sum_z f.register.count (λ j. part_z (in_group x t) (λ l. l.difference) (new j))) q ∙ level_today t)
       (λ (ne : d ≡ due_day (today f) → ⊥).
-      sumZ_same f.register.count _ _ (λ j l.
+      sum_z_same f.register.count _ _ (λ j l.
       cond_both (traded_today f (line f.register j)) (line_closed f (line f.register j)) (line f.register j)
-      (λ (x : Line). partZ (in_group d t) (λ k. k.difference) x ≡ partZ (in_group d t) (λ k. k.difference) (line f.register j))
+      (λ (x : Line). part_z (in_group d t) (λ k. k.difference) x ≡ part_z (in_group d t) (λ k. k.difference) (line f.register j))
       (λ h.
       let a = eqb-true (key f.register j).due (due_day (today f)) h in
       let out : in_group d t (line f.register j) ≡ false = and_left (eqb (key f.register j).due d) _ (ne_eqb (key f.register j).due d (λ q. ne (sym q ∙ a))) in
@@ -422,8 +422,8 @@ module _ (f : Figures) (ls : List Line) (e : EvenLines f) (c : Rewritten (traded
       (cases_eq d (due_day (today f)))
 
   -- No line falls due as late as trades of the next day do.
-  fresh_morning : (t : ℕ) → sumZ_if (in_group (due_day (today morning)) t) (λ l. l.money) morning.register ≡ pos 0
-  fresh_morning t = sumZ_zero (length stayed) _ (stayed_all (λ (x : Line). partZ (in_group (due_day (today morning)) t) (λ l. l.money) x ≡ pos 0) (λ j l h. none _ j l) (λ j l h. none _ j l))
+  fresh_morning : (t : ℕ) → sum_z_if (in_group (due_day (today morning)) t) (λ l. l.money) morning.register ≡ pos 0
+  fresh_morning t = sum_z_zero (length stayed) _ (stayed_all (λ (x : Line). part_z (in_group (due_day (today morning)) t) (λ l. l.money) x ≡ pos 0) (λ j l h. none _ j l) (λ j l h. none _ j l))
     where
       none : (v : ℤ) (j : ℕ) → j < f.register.count → cond (in_group (due_day (today morning)) t (line f.register j)) v (pos 0) ≡ pos 0
       none v j l = let a = (e.lines.known j l).due_known in
@@ -501,7 +501,7 @@ rested_end s shut early h =
       small = e.small;
       escrowed = e.escrowed;
       empty = e.empty;
-      money = ap (λ (x : ℤ). x +ℤ pos (s.held pool cash)) (sumZ_same (suc s.figures.size.members) _ (position s.figures) (λ k l. r.3 k)) ∙ e.money;
+      money = ap (λ (x : ℤ). x +ℤ pos (s.held pool cash)) (sum_z_same (suc s.figures.size.members) _ (position s.figures) (λ k l. r.3 k)) ∙ e.money;
     }))
 
 -- Cash settlement of a due day and security, at c for a share: lines and positions after the first n places.
@@ -514,8 +514,8 @@ Compensated s d t c n u =
     × (u ≡ with_figures s (with_records (with_register s.figures (record { count = s.figures.register.count; lines = ls })) rs))
     × Rewritten (in_group d t) served_whole s.figures.register n ls
     × (length rs ≡ length s.figures.records)
-    × (sumZ (suc s.figures.size.members) (λ m. (get_or rs m no_member).position)
-    ≡ sumZ (suc s.figures.size.members) (position s.figures) +ℤ sumZ n (λ i. partZ (in_group d t) (λ l. compensation_due l c) (line s.figures.register i)))
+    × (sum_z (suc s.figures.size.members) (λ m. (get_or rs m no_member).position)
+    ≡ sum_z (suc s.figures.size.members) (position s.figures) +ℤ sum_z n (λ i. part_z (in_group d t) (λ l. compensation_due l c) (line s.figures.register i)))
 
 module _ (s : State) (h : Shape s.figures) (k : SoundLines s.figures) (d t c : ℕ) where
   compensated_none : Compensated s d t c 0 s
@@ -529,8 +529,8 @@ module _ (s : State) (h : Shape s.figures) (k : SoundLines s.figures) (d t c : �
     q.2,
     rewritten_skip (in_group d t) served_whole s.figures.register n q.0 e q.3,
     q.4,
-    q.5 ∙ ap (λ z. sumZ (suc s.figures.size.members) (position s.figures) +ℤ z)
-        (sym (ap (λ b. sumZ n (λ i. partZ (in_group d t) (λ l. compensation_due l c) (line s.figures.register i)) +ℤ cond b (compensation_due (line s.figures.register n) c) (pos 0)) e ∙ +ℤ_idr _)),
+    q.5 ∙ ap (λ z. sum_z (suc s.figures.size.members) (position s.figures) +ℤ z)
+        (sym (ap (λ b. sum_z n (λ i. part_z (in_group d t) (λ l. compensation_due l c) (line s.figures.register i)) +ℤ cond b (compensation_due (line s.figures.register n) c) (pos 0)) e ∙ +ℤ_idr _)),
   )
 
   compensated_more : (n : ℕ) (u : State) → n < s.figures.register.count → in_group d t (line s.figures.register n) ≡ true
@@ -556,7 +556,7 @@ module _ (s : State) (h : Shape s.figures) (k : SoundLines s.figures) (d t c : �
             (set rs x.claim.key.member (at_position (get_or rs x.claim.key.member no_member) ((get_or rs x.claim.key.member no_member).position +ℤ compensation_due x c))))) next),
         rewritten_more (in_group d t) served_whole f.register n q.0 (let x = h.few_lines in let y = h.places in omega arith) e q.3,
         length-set rs m r ∙ q.4,
-        add _ _ (sumZ (suc f.size.members) (position f)) (sumZ n (λ i. partZ (in_group d t) (λ x. compensation_due x c) (line f.register i))) _ _ _
+        add _ _ (sum_z (suc f.size.members) (position f)) (sum_z n (λ i. part_z (in_group d t) (λ x. compensation_due x c) (line f.register i))) _ _ _
             (positions_with (suc f.size.members) before m r (let x = (k.known n l).member_known in omega arith)
             (let x = (k.known n l).member_known in let y = h.few_members in let z = h.records in let w = q.4 in omega arith))
             q.5 (cond-true (in_group d t a) (compensation_due a c) (pos 0) e),
@@ -606,7 +606,7 @@ module _ (f : Figures) (ls : List Line) (rs : List Member) (d t : ℕ) (e : Even
   }
 
   -- The group's rests are 0, the others as they were.
-  even_paid : (a b : ℕ) → sumZ_if (in_group a b) sided paid.register ≡ pos 0
+  even_paid : (a b : ℕ) → sum_z_if (in_group a b) sided paid.register ≡ pos 0
   even_paid a b =
       ⊎_elim
       (λ (w : (eqb d a && eqb t b) ≡ true).
@@ -614,11 +614,11 @@ module _ (f : Figures) (ls : List Line) (rs : List Member) (d t : ℕ) (e : Even
       let out : (x : Line) → in_group d t x ≡ false → in_group a b x ≡ false
       = λ x g. ap (λ y. eqb x.claim.key.due y && eqb x.claim.key.security b) (sym (eqb-true d a q.0))
       ∙ (ap (λ y. eqb x.claim.key.due d && eqb x.claim.key.security y) (sym (eqb-true t b q.1)) ∙ g) in
-      sumZ_zero f.register.count _ (paid_all (λ j x. partZ (in_group a b) sided x ≡ pos 0)
+      sum_z_zero f.register.count _ (paid_all (λ j x. part_z (in_group a b) sided x ≡ pos 0)
       (λ j l g. none_if (in_group a b (old j)) (sided (served_whole (old j))) (sided_none (served_whole (old j)) (omega arith)))
       (λ j l g. cond-false (in_group a b (old j)) (sided (old j)) (pos 0) (out (old j) g))))
       (λ (w : (eqb d a && eqb t b) ≡ false).
-      sumZ_same f.register.count _ _ (paid_all (λ j x. partZ (in_group a b) sided x ≡ partZ (in_group a b) sided (old j))
+      sum_z_same f.register.count _ _ (paid_all (λ j x. part_z (in_group a b) sided x ≡ part_z (in_group a b) sided (old j))
       (λ j l g.
       let o : in_group a b (old j) ≡ false = other (old j) g ∙ w in
       cond-false (in_group a b (old j)) (sided (served_whole (old j))) (pos 0) o ∙ sym (cond-false (in_group a b (old j)) (sided (old j)) (pos 0) o))
@@ -651,8 +651,8 @@ module _ (f : Figures) (ls : List Line) (rs : List Member) (d t : ℕ) (e : Even
     lines = lines_paid;
     within = paid_all (λ j x. x.rest ≤ nat_abs x.claim.quantity) (λ j l g. omega arith) (λ j l g. e.within j l);
     even = even_paid;
-    level = λ a b. sumZ_same f.register.count _ _ (λ j l. same_paid (partZ (in_group a b) (λ (x : Line). x.difference)) (λ x. refl) j l) ∙ e.level a b;
-    fresh = λ b. sumZ_same f.register.count _ _ (λ j l. same_paid (partZ (in_group (due_day (today f)) b) (λ (x : Line). x.money)) (λ x. refl) j l) ∙ e.fresh b;
+    level = λ a b. sum_z_same f.register.count _ _ (λ j l. same_paid (part_z (in_group a b) (λ (x : Line). x.difference)) (λ x. refl) j l) ∙ e.level a b;
+    fresh = λ b. sum_z_same f.register.count _ _ (λ j l. same_paid (part_z (in_group (due_day (today f)) b) (λ (x : Line). x.money)) (λ x. refl) j l) ∙ e.fresh b;
     whole = paid_all (λ j x. today f < x.claim.key.due → x.rest ≡ nat_abs x.claim.quantity)
         (λ j l g h. let q = eqb-true (key f.register j).due d (and_parts (eqb (key f.register j).due d) (eqb (key f.register j).security t) g).0 in absurd (omega arith))
         (λ j l g. e.whole j l);

@@ -13,7 +13,7 @@ use Rattle.rules.specs.declared.figures.Figures.{Figures}
 use Rattle.register.specs.Limits.{most_price}
 use Rattle.rules.specs.Limits.{most_growth}
 use Rattle.rules.specs.State.{State, no_member, member, position, in_escrow, close, today, above, below, with_records, put_line, put_member, put_escrow, at_position, at_advances}
-use Rattle.register.specs.Lines.{line, signed_rest, receives, of_member, rest_of, sumZ, sum_if, sumZ_if, with_line}
+use Rattle.register.specs.Lines.{line, signed_rest, receives, of_member, rest_of, sum_z, sum_if, sum_z_if, with_line}
 use Rattle.rules.specs.Charges.{charged_record}
 use Rattle.rules.specs.Run.{Act, settle, give, give_escrow, serve, pay, pay_out, repay, pay_charges, pass, mark_line, mark, charge, compensate, close_line, require, Source, own, from_collateral, from_contribution, from_reserve, paid_more, line_served, line_marked, compensation_due, exposure, noted, after_act, moved_position}
 use Rattle.rules.specs.Fit.{Shape, Known, LineFits, MemberFits, Bounds, weight, full_weight, most_compensation, most_weight, most_due, due_of}
@@ -376,14 +376,14 @@ size_exposure f ok i l =
     cond_both (eqb k.price 0) full_weight (nat_abs k.difference + k.rest * most_compensation) (λ (n : ℕ). nat_abs (exposure f k) ≤ n)
     (λ q. omega arith) (λ q. omega arith)
 
-required_most : (f : Figures) → Bounds f → (m : ℕ) → nat_abs (sumZ_if (of_member m) (exposure f) f.register) ≤ sum_if (of_member m) weight f.register
+required_most : (f : Figures) → Bounds f → (m : ℕ) → nat_abs (sum_z_if (of_member m) (exposure f) f.register) ≤ sum_if (of_member m) weight f.register
 required_most f ok m =
     size_of_sum f.register.count _ _ (λ i b. parts (of_member m (line f.register i)) _ _ (size_exposure f ok i b))
   where
-    size_of_sum : (n : ℕ) (z : ℕ → ℤ) (w : ℕ → ℕ) → ((k : ℕ) → k < n → nat_abs (z k) ≤ w k) → nat_abs (sumZ n z) ≤ sum_to n w
+    size_of_sum : (n : ℕ) (z : ℕ → ℤ) (w : ℕ → ℕ) → ((k : ℕ) → k < n → nat_abs (z k) ≤ w k) → nat_abs (sum_z n z) ≤ sum_to n w
     size_of_sum zero z w h = omega arith
     size_of_sum (suc n) z w h =
-        let a = size_of_sum n z w (λ k b. h k (omega arith)) in let b = h n (omega arith) in let c = size_sum (sumZ n z) (z n) in omega arith
+        let a = size_of_sum n z w (λ k b. h k (omega arith)) in let b = h n (omega arith) in let c = size_sum (sum_z n z) (z n) in omega arith
 
     parts : (b : Bool) (z : ℤ) (w : ℕ) → nat_abs z ≤ w → nat_abs (cond b z (pos 0)) ≤ cond b w 0
     parts true z w h = h
@@ -434,7 +434,7 @@ module _ (f : Figures) (ok : Bounds f) (m : ℕ) (l : m < 25) where
   pub bounds_require : (x : ℕ) → Bounds (noted f (require m) x)
   bounds_require x =
       let h = ok.members m l in
-      let a = above_size (sumZ_if (of_member m) (exposure f) f.register) in
+      let a = above_size (sum_z_if (of_member m) (exposure f) f.register) in
       let b = required_most f ok m in
       let c = ok.weights m l in
       bounds_member f ok m l _

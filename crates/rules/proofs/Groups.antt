@@ -14,11 +14,11 @@ use Rattle.register.specs.declared.line.Line.{Line}
 use Rattle.register.specs.declared.Register.{Register}
 use Rattle.rules.specs.declared.figures.Figures.{Figures}
 use Rattle.rules.specs.State.{State, pool, escrow, cash, position, in_escrow, today}
-use Rattle.register.specs.Lines.{line, key, delivers, receives, in_group, signed_rest, sumZ, sumZ_if, to_deliver, to_receive, in_hand}
+use Rattle.register.specs.Lines.{line, key, delivers, receives, in_group, signed_rest, sum_z, sum_z_if, to_deliver, to_receive, in_hand}
 use Rattle.register.specs.Netting.{due_day}
 use Rattle.rules.specs.Life.{Matched}
 use Rattle.rules.specs.Fit.{Shape, Known}
-use Rattle.rules.proofs.Sums.{sumZ_same, sumZ_zero, partZ}
+use Rattle.rules.proofs.Sums.{sum_z_same, sum_z_zero, part_z}
 use Rattle.rules.proofs.Invariants.{worth, all_worth, settled_day, days, SoundLines, Rested}
 
 -- Terms of a sum that count under a test: equal where it holds, 0 where they are 0; and sums of 0.
@@ -51,40 +51,40 @@ times_sum a b c =
         three : (x y z k : ℕ) → (x + y + z) * k ≡ x * k + y * k + z * k
         three x y z k = add-mul (x + y) z k ∙ ap (λ n. n + z * k) (add-mul x y k)
 
-pub sumZ_plus : (n : ℕ) (f g : ℕ → ℤ) → sumZ n (λ i. f i +ℤ g i) ≡ sumZ n f +ℤ sumZ n g
-sumZ_plus zero f g = refl
-sumZ_plus (suc n) f g = let e = sumZ_plus n f g in omega (arith, ints)
+pub sum_z_plus : (n : ℕ) (f g : ℕ → ℤ) → sum_z n (λ i. f i +ℤ g i) ≡ sum_z n f +ℤ sum_z n g
+sum_z_plus zero f g = refl
+sum_z_plus (suc n) f g = let e = sum_z_plus n f g in omega (arith, ints)
 
-pub sumZ_times : (n : ℕ) (f : ℕ → ℤ) (c : ℤ) → sumZ n (λ i. f i *ℤ c) ≡ sumZ n f *ℤ c
-sumZ_times zero f c = sym (zero-*ℤ c)
-sumZ_times (suc n) f c = ap (λ x. x +ℤ f n *ℤ c) (sumZ_times n f c) ∙ sym (times_sum (sumZ n f) (f n) c)
+pub sum_z_times : (n : ℕ) (f : ℕ → ℤ) (c : ℤ) → sum_z n (λ i. f i *ℤ c) ≡ sum_z n f *ℤ c
+sum_z_times zero f c = sym (zero-*ℤ c)
+sum_z_times (suc n) f c = ap (λ x. x +ℤ f n *ℤ c) (sum_z_times n f c) ∙ sym (times_sum (sum_z n f) (f n) c)
 
 -- A sum is 0 if the terms of every class add to 0.
-sum_below : (n : ℕ) (class : ℕ → ℕ) (z : ℕ → ℤ) → ((c : ℕ) → sumZ n (λ i. cond (eqb (class i) c) (z i) (pos 0)) ≡ pos 0)
-    → (b : ℕ) → sumZ n (λ i. cond (ltb (class i) b) (z i) (pos 0)) ≡ pos 0
-sum_below n class z h zero = sumZ_zero n _ (λ k l. grind (arith, nat_tests))
+sum_below : (n : ℕ) (class : ℕ → ℕ) (z : ℕ → ℤ) → ((c : ℕ) → sum_z n (λ i. cond (eqb (class i) c) (z i) (pos 0)) ≡ pos 0)
+    → (b : ℕ) → sum_z n (λ i. cond (ltb (class i) b) (z i) (pos 0)) ≡ pos 0
+sum_below n class z h zero = sum_z_zero n _ (λ k l. grind (arith, nat_tests))
 sum_below n class z h (suc b) =
-    sumZ_same n _ (λ i. cond (ltb (class i) b) (z i) (pos 0) +ℤ cond (eqb (class i) b) (z i) (pos 0)) (λ k l. one (class k) (z k))
-    ∙ (sumZ_plus n _ _ ∙ none_added _ _ (sum_below n class z h b) (h b))
+    sum_z_same n _ (λ i. cond (ltb (class i) b) (z i) (pos 0) +ℤ cond (eqb (class i) b) (z i) (pos 0)) (λ k l. one (class k) (z k))
+    ∙ (sum_z_plus n _ _ ∙ none_added _ _ (sum_below n class z h b) (h b))
   where
     one : (c : ℕ) (v : ℤ) → cond (ltb c (suc b)) v (pos 0) ≡ cond (ltb c b) v (pos 0) +ℤ cond (eqb c b) v (pos 0)
     one c v = grind (arith, nat_tests, ints)
 
 sum_by_class : (n : ℕ) (class : ℕ → ℕ) (b : ℕ) (z : ℕ → ℤ) → ((i : ℕ) → i < n → class i < b)
-    → ((c : ℕ) → sumZ n (λ i. cond (eqb (class i) c) (z i) (pos 0)) ≡ pos 0) → sumZ n z ≡ pos 0
+    → ((c : ℕ) → sum_z n (λ i. cond (eqb (class i) c) (z i) (pos 0)) ≡ pos 0) → sum_z n z ≡ pos 0
 sum_by_class n class b z l h =
-    sumZ_same n z (λ i. cond (ltb (class i) b) (z i) (pos 0)) (λ k m. sym (cond-true (ltb (class k) b) (z k) (pos 0) (lt-ltb (class k) b (l k m)))) ∙ sum_below n class z h b
+    sum_z_same n z (λ i. cond (ltb (class i) b) (z i) (pos 0)) (λ k m. sym (cond-true (ltb (class k) b) (z k) (pos 0) (lt-ltb (class k) b (l k m)))) ∙ sum_below n class z h b
 
 -- A sum over all lines is 0 if its sum over every due day and security is.
-sum_by_group : (f : Figures) → SoundLines f → (z : Line → ℤ) → ((d t : ℕ) → sumZ_if (in_group d t) z f.register ≡ pos 0)
-    → sumZ f.register.count (λ i. z (line f.register i)) ≡ pos 0
+sum_by_group : (f : Figures) → SoundLines f → (z : Line → ℤ) → ((d t : ℕ) → sum_z_if (in_group d t) z f.register ≡ pos 0)
+    → sum_z f.register.count (λ i. z (line f.register i)) ≡ pos 0
 sum_by_group f s z h =
     sum_by_class f.register.count (λ i. (key f.register i).due) (suc (due_day (today f))) (λ i. z (line f.register i))
     (λ i l. let k = (s.known i l).due_known in omega arith)
     (λ d. sum_by_class f.register.count (λ i. (key f.register i).security) (suc f.size.securities)
     (λ i. cond (eqb (key f.register i).due d) (z (line f.register i)) (pos 0))
     (λ i l. let k = (s.known i l).security_known in omega arith)
-    (λ t. sumZ_same f.register.count _ _ (λ i l. both (eqb (key f.register i).due d) (eqb (key f.register i).security t) (z (line f.register i))) ∙ h d t))
+    (λ t. sum_z_same f.register.count _ _ (λ i l. both (eqb (key f.register i).due d) (eqb (key f.register i).security t) (z (line f.register i))) ∙ h d t))
   where
     both : (a b : Bool) (v : ℤ) → cond b (cond a v (pos 0)) (pos 0) ≡ cond (a && b) v (pos 0)
     both true true v = refl
@@ -100,7 +100,7 @@ sided l = cond (delivers l) (pos l.rest) (cond (receives l) (neg_ℤ (pos l.rest
 one_side : (q : ℤ) → lt_z (pos 0) q ≡ true → lt_z q (pos 0) ≡ false
 one_side q e = grind (arith, ints)
 
-sided_sum : (g : Register) (d t : ℕ) → sumZ_if (in_group d t) sided g +ℤ pos (to_receive g d t) ≡ pos (to_deliver g d t)
+sided_sum : (g : Register) (d t : ℕ) → sum_z_if (in_group d t) sided g +ℤ pos (to_receive g d t) ≡ pos (to_deliver g d t)
 sided_sum g d t = upto g.count
   where
     part : (x y b : Bool) (r : ℕ) → (x ≡ true → y ≡ false)
@@ -113,7 +113,7 @@ sided_sum g d t = upto g.count
     part false false true r h = omega (arith, ints)
     part false false false r h = omega (arith, ints)
 
-    upto : (n : ℕ) → sumZ n (λ i. partZ (in_group d t) sided (line g i)) +ℤ pos (sum_to n (λ i. cond (receives (line g i) && in_group d t (line g i)) (line g i).rest 0))
+    upto : (n : ℕ) → sum_z n (λ i. part_z (in_group d t) sided (line g i)) +ℤ pos (sum_to n (λ i. cond (receives (line g i) && in_group d t (line g i)) (line g i).rest 0))
         ≡ pos (sum_to n (λ i. cond (delivers (line g i) && in_group d t (line g i)) (line g i).rest 0))
     upto zero = refl
     upto (suc n) =
@@ -148,13 +148,13 @@ some_or_none (suc n) b =
 -- Terms that add to 0 still do when each is taken at the one price that they have.
 sum_priced : (n : ℕ) (b : ℕ → Bool) (x : ℕ → ℤ) (p : ℕ → ℕ) (h : ℕ → ℤ)
     → ((i j : ℕ) → i < n → j < n → b i ≡ true → b j ≡ true → p i ≡ p j)
-    → sumZ n (λ i. cond (b i) (x i) (pos 0)) ≡ pos 0 → sumZ n (λ i. cond (b i) (x i *ℤ h (p i)) (pos 0)) ≡ pos 0
+    → sum_z n (λ i. cond (b i) (x i) (pos 0)) ≡ pos 0 → sum_z n (λ i. cond (b i) (x i *ℤ h (p i)) (pos 0)) ≡ pos 0
 sum_priced n b x p h one e =
     ⊎_elim
     (λ (s : (i : ℕ) × (i < n) × (b i ≡ true)).
-    sumZ_same n _ (λ i. cond (b i) (x i) (pos 0) *ℤ h (p s.0)) (λ i l. at (b i) (x i) (p i) (p s.0) (λ t. one i s.0 l s.1 t s.2))
-    ∙ (sumZ_times n (λ i. cond (b i) (x i) (pos 0)) (h (p s.0)) ∙ (ap (λ z. z *ℤ h (p s.0)) e ∙ zero-*ℤ (h (p s.0)))))
-    (λ f. sumZ_zero n _ (λ i l. cond-false (b i) _ (pos 0) (f i l)))
+    sum_z_same n _ (λ i. cond (b i) (x i) (pos 0) *ℤ h (p s.0)) (λ i l. at (b i) (x i) (p i) (p s.0) (λ t. one i s.0 l s.1 t s.2))
+    ∙ (sum_z_times n (λ i. cond (b i) (x i) (pos 0)) (h (p s.0)) ∙ (ap (λ z. z *ℤ h (p s.0)) e ∙ zero-*ℤ (h (p s.0)))))
+    (λ f. sum_z_zero n _ (λ i l. cond-false (b i) _ (pos 0) (f i l)))
     (some_or_none n b)
   where
     at : (t : Bool) (v : ℤ) (q r : ℕ) → (t ≡ true → q ≡ r) → cond t (v *ℤ h q) (pos 0) ≡ cond t v (pos 0) *ℤ h r
@@ -179,9 +179,9 @@ pub record EvenLines (f : Figures) : Type 0 where
   pub shape : Shape f
   pub lines : SoundLines f
   pub within : (i : ℕ) → i < f.register.count → (line f.register i).rest ≤ nat_abs (line f.register i).claim.quantity
-  pub even : (d t : ℕ) → sumZ_if (in_group d t) sided f.register ≡ pos 0
-  pub level : (d t : ℕ) → sumZ_if (in_group d t) (λ l. l.difference) f.register ≡ pos 0
-  pub fresh : (t : ℕ) → sumZ_if (in_group (due_day (today f)) t) (λ l. l.money) f.register ≡ pos 0
+  pub even : (d t : ℕ) → sum_z_if (in_group d t) sided f.register ≡ pos 0
+  pub level : (d t : ℕ) → sum_z_if (in_group d t) (λ l. l.difference) f.register ≡ pos 0
+  pub fresh : (t : ℕ) → sum_z_if (in_group (due_day (today f)) t) (λ l. l.money) f.register ≡ pos 0
   pub whole : (i : ℕ) → i < f.register.count → today f < (key f.register i).due
       → (line f.register i).rest ≡ nat_abs (line f.register i).claim.quantity
   pub unpriced : (i : ℕ) → i < f.register.count → (key f.register i).due ≡ due_day (today f)
@@ -199,11 +199,11 @@ group_price f s d t i j l k a b =
     (eqb-true (key f.register i).security t x.1 ∙ sym (eqb-true (key f.register j).security t y.1))
 
 -- Signed rests of a due day and security add to 0, also at a price that depends on theirs.
-even_rests : (f : Figures) → EvenLines f → (d t : ℕ) → sumZ_if (in_group d t) signed_rest f.register ≡ pos 0
+even_rests : (f : Figures) → EvenLines f → (d t : ℕ) → sum_z_if (in_group d t) signed_rest f.register ≡ pos 0
 even_rests f e d t =
-    sumZ_same f.register.count _ _ (λ i l. ap (λ z. cond (in_group d t (line f.register i)) z (pos 0)) (sided_within (line f.register i) (e.within i l))) ∙ e.even d t
+    sum_z_same f.register.count _ _ (λ i l. ap (λ z. cond (in_group d t (line f.register i)) z (pos 0)) (sided_within (line f.register i) (e.within i l))) ∙ e.even d t
 
-pub even_priced : (f : Figures) → EvenLines f → (d t : ℕ) (h : ℕ → ℤ) → sumZ_if (in_group d t) (λ l. signed_rest l *ℤ h l.price) f.register ≡ pos 0
+pub even_priced : (f : Figures) → EvenLines f → (d t : ℕ) (h : ℕ → ℤ) → sum_z_if (in_group d t) (λ l. signed_rest l *ℤ h l.price) f.register ≡ pos 0
 even_priced f e d t h =
     sum_priced f.register.count (λ i. in_group d t (line f.register i)) (λ i. signed_rest (line f.register i)) (λ i. (line f.register i).price) h
     (group_price f e.lines d t) (even_rests f e d t)
@@ -211,9 +211,9 @@ even_priced f e d t h =
 -- Nothing is open in money.
 no_worth : (f : Figures) → EvenLines f → all_worth f ≡ pos 0
 no_worth f e = sum_by_group f e.lines worth (λ d t.
-    sumZ_same f.register.count _ (λ i. partZ (in_group d t) (λ l. l.difference) (line f.register i) +ℤ partZ (in_group d t) (λ l. signed_rest l *ℤ pos l.price) (line f.register i))
+    sum_z_same f.register.count _ (λ i. part_z (in_group d t) (λ l. l.difference) (line f.register i) +ℤ part_z (in_group d t) (λ l. signed_rest l *ℤ pos l.price) (line f.register i))
     (λ i l. apart (in_group d t (line f.register i)) (line f.register i).difference (signed_rest (line f.register i) *ℤ pos (line f.register i).price))
-    ∙ (sumZ_plus f.register.count _ _ ∙ none_added _ _ (e.level d t) (even_priced f e d t pos)))
+    ∙ (sum_z_plus f.register.count _ _ ∙ none_added _ _ (e.level d t) (even_priced f e d t pos)))
   where
     apart : (b : Bool) (x y : ℤ) → cond b (x +ℤ y) (pos 0) ≡ cond b x (pos 0) +ℤ cond b y (pos 0)
     apart true x y = refl
@@ -227,7 +227,7 @@ pub record Even (s : State) : Type 0 where
   pub small : (t : ℕ) → sum_to s.accounts (λ a. s.held a t) ≤ most_amount
   pub escrowed : (t : ℕ) → 0 < t → sum_to (suc s.figures.size.members) (λ m. in_escrow s.figures m t) ≡ s.held escrow t
   pub empty : (t : ℕ) → 0 < t → s.held pool t ≡ 0
-  pub money : sumZ (suc s.figures.size.members) (position s.figures) +ℤ pos (s.held pool cash) ≡ pos 0
+  pub money : sum_z (suc s.figures.size.members) (position s.figures) +ℤ pos (s.held pool cash) ≡ pos 0
 
 -- As much to deliver as to receive.
 even_sides : (f : Figures) → EvenLines f → (d t : ℕ) → to_deliver f.register d t ≡ to_receive f.register d t

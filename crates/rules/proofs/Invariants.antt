@@ -5,7 +5,7 @@ use Rattle.register.specs.declared.line.Line.{Line}
 use Rattle.rules.specs.declared.figures.Figures.{Figures}
 use Rattle.rules.specs.Limits.{last_day}
 use Rattle.rules.specs.State.{State, pool, escrow, cash, position, in_escrow, today}
-use Rattle.register.specs.Lines.{line, key, in_group, signed_rest, sumZ, sumZ_if, to_deliver, to_receive, in_hand}
+use Rattle.register.specs.Lines.{line, key, in_group, signed_rest, sum_z, sum_z_if, to_deliver, to_receive, in_hand}
 use Rattle.register.specs.Netting.{due_day}
 use Rattle.rules.specs.Events.{is_morning}
 use Rattle.rules.specs.Fit.{Shape, Known}
@@ -23,7 +23,7 @@ abbrev pub worth : Line → ℤ
 worth l = l.difference +ℤ signed_rest l *ℤ pos l.price
 
 abbrev pub all_worth : Figures → ℤ
-all_worth f = sumZ f.register.count (λ i. worth (line f.register i))
+all_worth f = sum_z f.register.count (λ i. worth (line f.register i))
 
 -- More days than any line falls due on.
 unfoldable pub days : ℕ
@@ -41,7 +41,7 @@ pub record Working (s : State) : Type 0 where
   pub pooled : (t : ℕ) → 0 < t → sum_to days (λ d. in_hand s.figures.register d t) ≡ s.held pool t
   pub covered : (d t : ℕ) → to_deliver s.figures.register d t ≤ to_receive s.figures.register d t
   -- Positions and the pool's cash make up what is still open.
-  pub balanced : sumZ (suc s.figures.size.members) (position s.figures) +ℤ pos (s.held pool cash) ≡ all_worth s.figures
+  pub balanced : sum_z (suc s.figures.size.members) (position s.figures) +ℤ pos (s.held pool cash) ≡ all_worth s.figures
 
 -- The last day whose differences noon has taken.
 abbrev pub settled_day : Figures → ℕ
@@ -52,8 +52,8 @@ pub record Rested (s : State) : Type 0 where
   pub works : Working s
   pub none_in_hand : (d t : ℕ) → in_hand s.figures.register d t ≡ 0
   -- Differences of a due day and security add to 0, and so does the money of today's trades.
-  pub level : (d t : ℕ) → sumZ_if (in_group d t) (λ l. l.difference) s.figures.register ≡ pos 0
-  pub fresh : (t : ℕ) → sumZ_if (in_group (due_day (today s.figures)) t) (λ l. l.money) s.figures.register ≡ pos 0
+  pub level : (d t : ℕ) → sum_z_if (in_group d t) (λ l. l.difference) s.figures.register ≡ pos 0
+  pub fresh : (t : ℕ) → sum_z_if (in_group (due_day (today s.figures)) t) (λ l. l.money) s.figures.register ≡ pos 0
   -- Lines not yet due are whole; today's have no settlement price; a taken difference is 0.
   pub whole : (i : ℕ) → i < s.figures.register.count → today s.figures < (key s.figures.register i).due
       → (line s.figures.register i).rest ≡ nat_abs (line s.figures.register i).claim.quantity

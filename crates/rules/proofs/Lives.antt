@@ -31,7 +31,7 @@ use Rattle.rules.specs.declared.figures.Figures.{Figures}
 use Rattle.rules.specs.Limits.{most_members, most_securities, last_day}
 use Rattle.rules.specs.Faults.{refusal, answer_by, is_accepted}
 use Rattle.rules.specs.State.{State, total_of, pool, escrow, reserve, settlement, collateral, contribution, cash, no_member, no_row, position, in_escrow, today, with_clock, with_closes, with_figures, with_balances, put_close, opened, opened_figures}
-use Rattle.register.specs.Lines.{no_line, line, key, delivers, receives, in_group, due_by, in_hand, sumZ, sumZ_if, with_line}
+use Rattle.register.specs.Lines.{no_line, line, key, delivers, receives, in_group, due_by, in_hand, sum_z, sum_z_if, with_line}
 use Rattle.rules.specs.Run.{Act, settle, give, give_escrow, serve, pay, pay_out, repay, pay_charges, pass, mark_line, mark, charge, compensate, close_line, require, amount, from_account, to_account, moved_asset, noted, after_act, performed, Along, Before, PhaseActs, in_phases, steps, noon_run, two_run, differences, marks, chargings, line_settled, line_given, line_served, line_marked}
 use Rattle.register.specs.Netting.{due_day}
 use Rattle.rules.specs.Day.{closings, requirements, cleared_day, cash_settlements}
@@ -39,7 +39,7 @@ use Rattle.rules.specs.Events.{event_refusals, answer, acts, asked, after_all, b
 use Rattle.rules.specs.Life.{Entry, taken, next, lived, asked_sum, all_taken, FairAct, InOrder, Shows, PostingTaken, AskedTaken, AllTaken, moves, FewMoves, Throughout, Laws, SettlementLaws}
 use Rattle.rules.specs.Fit.{Shape}
 use Rattle.rules.proofs.Written.{line_with}
-use Rattle.rules.proofs.Sums.{sumZ_same, sumZ_zero, partZ}
+use Rattle.rules.proofs.Sums.{sum_z_same, sum_z_zero, part_z}
 use Rattle.rules.proofs.Acts.{OfRun, Later, later_same, later_trans, later_noted, shape_noted, shape_performed, performed_append, performed_keeps, run_differences, run_deliveries, run_servings, run_payments, run_payouts, run_repayments, run_passings, run_marks, run_chargings}
 use Rattle.rules.proofs.Invariants.{Working, Rested, days}
 use Rattle.rules.proofs.Groups.{same_if, none_if, known_like, matched_rested}
@@ -86,7 +86,7 @@ working_opened m s m₀ m₁ s₀ s₁ = record {
   escrowed = λ t p. sum_zero (suc m) (λ k. in_escrow (opened_figures m s) k t) (λ k. no_shares m s k t);
   pooled = λ t p. sum_zero days (λ d. in_hand (opened_figures m s).register d t) (λ d. refl);
   covered = λ d t. omega arith;
-  balanced = let z = sumZ_zero (suc m) (position (opened_figures m s)) (λ k l. no_position m s k) in ap (λ (x : ℤ). x +ℤ pos 0) z;
+  balanced = let z = sum_z_zero (suc m) (position (opened_figures m s)) (λ k l. no_position m s k) in ap (λ (x : ℤ). x +ℤ pos 0) z;
 }
 
 pub rested_opened : (m s : ℕ) → 0 < m → m ≤ most_members → 0 < s → s ≤ most_securities → Rested (opened m s)
@@ -200,7 +200,7 @@ rested_held s h small p e r = let w = r.works in record {
     escrowed = λ t o. w.escrowed t o ∙ sym (e t);
     pooled = λ t o. w.pooled t o ∙ sym (p t);
     covered = w.covered;
-    balanced = ap (λ (x : ℕ). sumZ (suc s.figures.size.members) (position s.figures) +ℤ pos x) (p cash) ∙ w.balanced;
+    balanced = ap (λ (x : ℕ). sum_z (suc s.figures.size.members) (position s.figures) +ℤ pos x) (p cash) ∙ w.balanced;
   };
 }
 
@@ -538,17 +538,17 @@ module _ (s t : State) (r : Rested s) (w : Working t) (over : (d u : ℕ) → in
   -- A sum over a due day and security, of which each term is known.
   sum_run : (z : Line → ℤ) (v : ℕ → ℤ) (d u : ℕ)
       → ((j : ℕ) → j < s.figures.register.count → in_group d u (line s.figures.register j) ≡ true → z (line t.figures.register j) ≡ v j)
-      → sumZ_if (in_group d u) z t.figures.register ≡ sumZ s.figures.register.count (λ j. cond (in_group d u (line s.figures.register j)) (v j) (pos 0))
+      → sum_z_if (in_group d u) z t.figures.register ≡ sum_z s.figures.register.count (λ j. cond (in_group d u (line s.figures.register j)) (v j) (pos 0))
   sum_run z v d u h =
-      ap (λ n. sumZ n (λ j. partZ (in_group d u) z (line t.figures.register j))) run.later.count
-      ∙ sumZ_same s.figures.register.count _ _ (λ j l.
+      ap (λ n. sum_z n (λ j. part_z (in_group d u) z (line t.figures.register j))) run.later.count
+      ∙ sum_z_same s.figures.register.count _ _ (λ j l.
       ap (λ (k : Key). cond (eqb k.due d && eqb k.security u) (z (line t.figures.register j)) (pos 0)) (same_key j)
       ∙ same_if (in_group d u (line s.figures.register j)) (z (line t.figures.register j)) (v j) (h j l))
 
   of_due : (d u j : ℕ) → in_group d u (line s.figures.register j) ≡ true → (key s.figures.register j).due ≡ d
   of_due d u j g = eqb-true (key s.figures.register j).due d (and_parts (eqb (key s.figures.register j).due d) (eqb (key s.figures.register j).security u) g).0
 
-  level_run : (d u : ℕ) → sumZ_if (in_group d u) (λ l. l.difference) t.figures.register ≡ pos 0
+  level_run : (d u : ℕ) → sum_z_if (in_group d u) (λ l. l.difference) t.figures.register ≡ pos 0
   level_run d u =
       ⊎_elim
       (λ (m : today s.figures < d).
@@ -557,7 +557,7 @@ module _ (s t : State) (r : Rested s) (w : Working t) (over : (d u : ℕ) → in
       ∙ r.level d u)
       (λ (m : d ≤ today s.figures).
       sum_run (λ l. l.difference) (λ j. pos 0) d u (λ j l g. taken' j l (let e = of_due d u j g in omega arith))
-      ∙ sumZ_zero s.figures.register.count _ (λ j l. none_if (in_group d u (line s.figures.register j)) (pos 0) refl))
+      ∙ sum_z_zero s.figures.register.count _ (λ j l. none_if (in_group d u (line s.figures.register j)) (pos 0) refl))
       (cases_lt (today s.figures) d)
 
   due_before : (j : ℕ) → (key t.figures.register j).due ≡ (key s.figures.register j).due
@@ -569,7 +569,7 @@ module _ (s t : State) (r : Rested s) (w : Working t) (over : (d u : ℕ) → in
     none_in_hand = over;
     level = level_run;
     fresh = λ u.
-        ap (λ n. sumZ_if (in_group (due_day n) u) (λ l. l.money) t.figures.register) same_day
+        ap (λ n. sum_z_if (in_group (due_day n) u) (λ l. l.money) t.figures.register) same_day
         ∙ (sum_run (λ l. l.money) (λ j. (line s.figures.register j).money) (due_day (today s.figures)) u (λ j l g. run.later.money j) ∙ r.fresh u);
     whole = λ j l m.
         let a = due_before j in let b = same_day in

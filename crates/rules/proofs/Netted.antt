@@ -13,12 +13,12 @@ use Rattle.rules.specs.declared.figures.Figures.{Figures}
 use Rattle.register.specs.Limits.{register_places}
 use Rattle.book.specs.Faults.{from_one_to}
 use Rattle.rules.specs.State.{State, today, with_register}
-use Rattle.register.specs.Lines.{no_line, line, key, in_group, sumZ, sumZ_if, blank}
+use Rattle.register.specs.Lines.{no_line, line, key, in_group, sum_z, sum_z_if, blank}
 use Rattle.register.specs.Netting.{due_day, same_key, place_below, place_of, known, line_of, bought, sold, filed, buyer_key, seller_key, buyer_filed}
 use Rattle.rules.specs.Events.{no_such_member, no_such_security, register_traded, traded}
 use Rattle.rules.specs.Fit.{Shape, Known}
 use Rattle.rules.proofs.Written.{get_or_with}
-use Rattle.rules.proofs.Sums.{sumZ_same, sumZ_if_with, partZ}
+use Rattle.rules.proofs.Sums.{sum_z_same, sum_z_if_with, part_z}
 use Rattle.rules.proofs.Invariants.{SoundLines, settled_day, Rested}
 use Rattle.rules.proofs.Groups.{none_if, known_like, sided, sided_whole, EvenLines, even_rested, rested_even}
 
@@ -91,20 +91,20 @@ module _ (g : Register) (k : Key) (n : Line) where
   line_filed h i = get_or_with g.lines (place_of g k) n no_line h i
 
   -- A sum over lines that pass a test: the key's line gives way to the new one.
-  sum_filed : (p : Line → Bool) (z : Line → ℤ) → place_of g k < length g.lines → partZ p z (blank k) ≡ pos 0
-      → sumZ_if p z (filed g k n) +ℤ partZ p z (line_of g k) ≡ sumZ_if p z g +ℤ partZ p z n
+  sum_filed : (p : Line → Bool) (z : Line → ℤ) → place_of g k < length g.lines → part_z p z (blank k) ≡ pos 0
+      → sum_z_if p z (filed g k n) +ℤ part_z p z (line_of g k) ≡ sum_z_if p z g +ℤ part_z p z n
   sum_filed p z h none = go (known g k) refl
     where
       go : (b : Bool) → known g k ≡ b
-          → sumZ_if p z (record { count = cond b g.count (suc g.count); lines = set g.lines (place_of g k) n }) +ℤ partZ p z (cond b (line g (place_of g k)) (blank k))
-          ≡ sumZ_if p z g +ℤ partZ p z n
-      go true e = sumZ_if_with p z g (place_of g k) n (place_known g k e).0 h
+          → sum_z_if p z (record { count = cond b g.count (suc g.count); lines = set g.lines (place_of g k) n }) +ℤ part_z p z (cond b (line g (place_of g k)) (blank k))
+          ≡ sum_z_if p z g +ℤ part_z p z n
+      go true e = sum_z_if_with p z g (place_of g k) n (place_known g k e).0 h
       go false e =
           let at = (place_unknown g k e).0 in
-          let old : sumZ g.count (λ i. partZ p z (get_or (set g.lines (place_of g k) n) i no_line)) ≡ sumZ_if p z g
-          = sumZ_same g.count _ _ (λ i l. ap (partZ p z) (line_filed h i ∙ cond-false (eqb i (place_of g k)) n (line g i) (ne_eqb i (place_of g k) (λ q. omega arith)))) in
-          let last : partZ p z (get_or (set g.lines (place_of g k) n) g.count no_line) ≡ partZ p z n
-          = ap (partZ p z) (line_filed h g.count ∙ cond-true (eqb g.count (place_of g k)) n (line g g.count) (eq-eqb g.count (place_of g k) (sym at))) in
+          let old : sum_z g.count (λ i. part_z p z (get_or (set g.lines (place_of g k) n) i no_line)) ≡ sum_z_if p z g
+          = sum_z_same g.count _ _ (λ i l. ap (part_z p z) (line_filed h i ∙ cond-false (eqb i (place_of g k)) n (line g i) (ne_eqb i (place_of g k) (λ q. omega arith)))) in
+          let last : part_z p z (get_or (set g.lines (place_of g k) n) g.count no_line) ≡ part_z p z n
+          = ap (part_z p z) (line_filed h g.count ∙ cond-true (eqb g.count (place_of g k)) n (line g g.count) (eq-eqb g.count (place_of g k) (sym at))) in
           add _ _ _ _ _ old last none
         where
           add : (S s a b c : ℤ) → S ≡ s → a ≡ b → c ≡ pos 0 → (S +ℤ a) +ℤ c ≡ s +ℤ b
@@ -115,7 +115,7 @@ record StepLines (f : Figures) : Type 0 where
   shape : Shape f
   lines : SoundLines f
   within : (i : ℕ) → i < f.register.count → (line f.register i).rest ≤ nat_abs (line f.register i).claim.quantity
-  level : (d t : ℕ) → sumZ_if (in_group d t) (λ l. l.difference) f.register ≡ pos 0
+  level : (d t : ℕ) → sum_z_if (in_group d t) (λ l. l.difference) f.register ≡ pos 0
   whole : (i : ℕ) → i < f.register.count → today f < (key f.register i).due
       → (line f.register i).rest ≡ nat_abs (line f.register i).claim.quantity
   unpriced : (i : ℕ) → i < f.register.count → (key f.register i).due ≡ due_day (today f)
@@ -240,14 +240,14 @@ module _ (f : Figures) (k : Key) (n : Line) (s : StepLines f) (o : OfToday f k) 
 
   -- A number that the new line has x more of.
   sum_more : (z : Line → ℤ) (x : ℤ) → z (blank k) ≡ pos 0 → z n ≡ z (line_of f.register k) +ℤ x → (d t : ℕ)
-      → sumZ_if (in_group d t) z here.register ≡ sumZ_if (in_group d t) z f.register +ℤ cond (eqb k.due d && eqb k.security t) x (pos 0)
+      → sum_z_if (in_group d t) z here.register ≡ sum_z_if (in_group d t) z f.register +ℤ cond (eqb k.due d && eqb k.security t) x (pos 0)
   sum_more z x none more d t =
       add (eqb k.due d && eqb k.security t) _ _ _ _ (z (line_of f.register k))
       (part_of n h.its_key ∙ ap (λ v. cond (eqb k.due d && eqb k.security t) v (pos 0)) more)
       (part_of (line_of f.register k) (plain_line_of f k s o).its_key)
       (sum_filed f.register k n (in_group d t) z fits (none_if (eqb k.due d && eqb k.security t) (z (blank k)) none))
     where
-      part_of : (l : Line) → l.claim.key ≡ k → partZ (in_group d t) z l ≡ cond (eqb k.due d && eqb k.security t) (z l) (pos 0)
+      part_of : (l : Line) → l.claim.key ≡ k → part_z (in_group d t) z l ≡ cond (eqb k.due d && eqb k.security t) (z l) (pos 0)
       part_of l e = ap (λ (j : Key). cond (eqb j.due d && eqb j.security t) (z l) (pos 0)) e
 
       add : (b : Bool) (S T a c v : ℤ) → c ≡ cond b (v +ℤ x) (pos 0) → a ≡ cond b v (pos 0) → S +ℤ a ≡ T +ℤ c → S ≡ T +ℤ cond b x (pos 0)
@@ -291,7 +291,7 @@ module _ (f : Figures) (k : Key) (n : Line) (s : StepLines f) (o : OfToday f k) 
       still false v e = omega (arith, ints)
 
   sided_filed : (x : ℤ) → n.claim.quantity ≡ (line_of f.register k).claim.quantity +ℤ x → (d t : ℕ)
-      → sumZ_if (in_group d t) sided here.register ≡ sumZ_if (in_group d t) sided f.register +ℤ cond (eqb k.due d && eqb k.security t) x (pos 0)
+      → sum_z_if (in_group d t) sided here.register ≡ sum_z_if (in_group d t) sided f.register +ℤ cond (eqb k.due d && eqb k.security t) x (pos 0)
   sided_filed x e =
       sum_more sided x refl
       (sided_whole n h.rest ∙ (e ∙ ap (λ v. v +ℤ x) (sym (sided_whole (line_of f.register k) (plain_line_of f k s o).rest))))

@@ -18,12 +18,12 @@ use Rattle.rules.specs.declared.figures.Figures.{Figures}
 use Rattle.rules.specs.Limits.{last_day}
 use Rattle.register.specs.Netting.{due_day}
 use Rattle.rules.specs.State.{State, pool, escrow, settlement, cash, member, position, in_escrow, today, owes, put_line, put_member, put_escrow, with_fails, with_figures}
-use Rattle.register.specs.Lines.{line, key, sumZ, sum_if, delivers, receives, in_group, rest_of, to_deliver, to_receive, in_hand, signed_rest, with_line}
+use Rattle.register.specs.Lines.{line, key, sum_z, sum_if, delivers, receives, in_group, rest_of, to_deliver, to_receive, in_hand, signed_rest, with_line}
 use Rattle.rules.specs.Run.{Act, Source, own, from_collateral, from_contribution, from_reserve, settle, give, give_escrow, serve, pay, pay_out, repay, pay_charges, pass, mark_line, mark, charge, compensate, close_line, require, source_account, amount, from_account, to_account, moved_asset, line_given, line_served, line_settled, line_marked, record_paid, noted, after_act}
 use Rattle.rules.specs.Life.{PostingTaken}
 use Rattle.rules.specs.Fit.{Known}
 use Rattle.rules.proofs.Written.{row, escrow_with}
-use Rattle.rules.proofs.Sums.{sum_if_with, sumZ_if_with, positions_with}
+use Rattle.rules.proofs.Sums.{sum_if_with, sum_z_if_with, positions_with}
 use Rattle.rules.proofs.Acts.{OfRun, Later, shape_noted, later_noted}
 use Rattle.rules.proofs.Invariants.{SoundLines, Working, worth, all_worth, days}
 use Rattle.rules.proofs.Postings.{Movable, movable_accepted, posted_nothing, posted_others, posted_to, posted_from, posted_total, cond_zero, total_at, sum_rose_at, source_known, source_above}
@@ -324,7 +324,7 @@ abbrev Pooled : State → Type 0
 Pooled s = (t : ℕ) → 0 < t → sum_to days (λ d. in_hand s.figures.register d t) ≡ s.held pool t
 
 abbrev Balanced : State → Type 0
-Balanced s = sumZ (suc s.figures.size.members) (position s.figures) +ℤ pos (s.held pool cash) ≡ all_worth s.figures
+Balanced s = sum_z (suc s.figures.size.members) (position s.figures) +ℤ pos (s.held pool cash) ≡ all_worth s.figures
 
 module _ (s : State) (w : Working s) where
   few : s.figures.size.members ≤ 24
@@ -336,19 +336,19 @@ module _ (s : State) (w : Working s) where
   -- A member's record is another.
   member_balanced : (m : ℕ) (r : Member) (c : ℕ) → m ≤ s.figures.size.members
       → r.position +ℤ pos c ≡ position s.figures m +ℤ pos (s.held pool cash)
-      → sumZ (suc s.figures.size.members) (position (put_member s.figures m r)) +ℤ pos c ≡ all_worth s.figures
+      → sum_z (suc s.figures.size.members) (position (put_member s.figures m r)) +ℤ pos c ≡ all_worth s.figures
   member_balanced m r c l e =
       balance_member _ _ (position s.figures m) r.position _ (s.held pool cash) c
       (positions_with (suc s.figures.size.members) s.figures m r (omega arith) (let a = few in let b = w.shape.records in omega arith)) e w.balanced
 
   all_worth_with : (i : ℕ) (k : Line) → i < s.figures.register.count
       → all_worth (put_line s.figures i k) +ℤ worth (line_at s i) ≡ all_worth s.figures +ℤ worth k
-  all_worth_with i k l = sumZ_if_with (λ l. true) worth s.figures.register i k l (line_place i l)
+  all_worth_with i k l = sum_z_if_with (λ l. true) worth s.figures.register i k l (line_place i l)
 
   -- A line and its member's record are others.
   line_balanced : (i : ℕ) (k : Line) (m : ℕ) (r : Member) (c : ℕ) → i < s.figures.register.count → m ≤ s.figures.size.members
       → r.position +ℤ worth (line_at s i) ≡ position s.figures m +ℤ worth k → c ≡ s.held pool cash
-      → sumZ (suc s.figures.size.members) (position (put_member (put_line s.figures i k) m r)) +ℤ pos c ≡ all_worth (put_line s.figures i k)
+      → sum_z (suc s.figures.size.members) (position (put_member (put_line s.figures i k) m r)) +ℤ pos c ≡ all_worth (put_line s.figures i k)
   line_balanced i k m r c l l' e same =
       balance_line _ _ (position s.figures m) r.position _ _ (worth (line_at s i)) (worth k) (s.held pool cash) c
       (positions_with (suc s.figures.size.members) (put_line s.figures i k) m r (omega arith) (let a = few in let b = w.shape.records in omega arith))
@@ -415,7 +415,7 @@ module _ (s : State) (w : Working s) (i : ℕ) (in_register : i < s.figures.regi
   give_covered = given_covered s.figures.register i _ x in_register (line_place s w i in_register) refl (omega arith) w.covered gives
 
   give_balanced : (r : Member) → r.position ≡ position s.figures (key_at s i).member -ℤ pos (x * (line_at s i).price)
-      → sumZ (suc s.figures.size.members) (position (put_member (put_line s.figures i (line_given (line_at s i) x)) (key_at s i).member r)) +ℤ pos (held cash)
+      → sum_z (suc s.figures.size.members) (position (put_member (put_line s.figures i (line_given (line_at s i) x)) (key_at s i).member r)) +ℤ pos (held cash)
       ≡ all_worth (put_line s.figures i (line_given (line_at s i) x))
   give_balanced r e =
       line_balanced s w i (line_given (line_at s i) x) (key_at s i).member r (held cash) in_register (w.lines.known i in_register).member_known
@@ -562,7 +562,7 @@ pass_works s m t o w =
     let b = held_from s (pass m t) o tt w (λ e. let l = o.0.0 in omega arith) u in let c = w.escrowed u p in omega (arith, a, b, c))
     (λ u p. w.pooled u p ∙ sym (pool_stays u))
     w.covered
-    (ap (λ n. sumZ (suc s.figures.size.members) (position s.figures) +ℤ pos n) (pool_stays cash) ∙ w.balanced)
+    (ap (λ n. sum_z (suc s.figures.size.members) (position s.figures) +ℤ pos n) (pool_stays cash) ∙ w.balanced)
   where
     pool_stays : (u : ℕ) → (after_act s (pass m t)).held pool u ≡ s.held pool u
     pool_stays = held_others s (pass m t) o tt w pool (λ e. omega arith) (λ e. let l = o.0.0 in omega arith)

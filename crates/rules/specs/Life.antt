@@ -8,7 +8,7 @@ use Rattle.rules.specs.declared.event.Event.{Event}
 use Rattle.rules.specs.Limits.{most_members, most_securities}
 use Rattle.rules.specs.Faults.{is_accepted}
 use Rattle.rules.specs.State.{State, total_of, pool, cash, position, owes, opened}
-use Rattle.register.specs.Lines.{line, receives, in_group, to_deliver, to_receive, sumZ}
+use Rattle.register.specs.Lines.{line, receives, in_group, to_deliver, to_receive, sum_z}
 use Rattle.rules.specs.Run.{Before, Act, settle, give, give_escrow, serve, pay, pay_out, repay, pay_charges, pass, mark_line, mark, charge, compensate, close_line, require, amount, from_account, to_account, moved_asset, Along}
 use Rattle.rules.specs.Events.{answer, acts, asked, effect, run_space}
 
@@ -46,7 +46,7 @@ Totals rank s xs = (t : ℕ) → total_of (lived rank s xs) t + all_taken taken_
 -- Shares to deliver equal shares to receive for every due day and security; all positions and the pool's cash add to 0.
 pub record Matched (s : State) : Type 0 where
   pub shares : (d t : ℕ) → to_deliver s.figures.register d t ≡ to_receive s.figures.register d t
-  pub money : sumZ (suc s.figures.size.members) (position s.figures) +ℤ pos (s.held pool cash) ≡ pos 0
+  pub money : sum_z (suc s.figures.size.members) (position s.figures) +ℤ pos (s.held pool cash) ≡ pos 0
 
 -- Line j goes before line i, which is of the same side, due day and security.
 abbrev pub ahead : Before → State → ℕ → ℕ → Bool

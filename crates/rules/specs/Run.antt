@@ -10,7 +10,7 @@ use Rattle.rules.specs.declared.figures.Member.{Member}
 use Rattle.register.specs.declared.Register.{Register}
 use Rattle.rules.specs.declared.figures.Figures.{Figures}
 use Rattle.rules.specs.State.{State, pool, escrow, reserve, settlement, collateral, contribution, cash, member, position, in_escrow, close, today, above, below, sum_owed, owes, put_line, put_member, put_escrow, at_position, at_advances, at_charges, at_requirement, at_late}
-use Rattle.register.specs.Lines.{line, key, sumZ_if, signed_rest, of_member, delivers, receives, due_by, in_hand}
+use Rattle.register.specs.Lines.{line, key, sum_z_if, signed_rest, of_member, delivers, receives, due_by, in_hand}
 use Rattle.rules.specs.Charges.{charged}
 
 -- Which of two lines of one side, due day and security goes before, at their settlement price.
@@ -203,7 +203,7 @@ exposure f l = signed_rest l *ℤ (pos (close f l.claim.key.security) -ℤ pos l
 
 -- The collateral that a member's lines require.
 abbrev pub required : Figures → ℕ → ℕ
-required f m = above (sumZ_if (of_member m) (exposure f) f.register)
+required f m = above (sum_z_if (of_member m) (exposure f) f.register)
 
 -- A position changed.
 abbrev pub moved_position : Figures → ℕ → ℤ → Figures
