@@ -1,5 +1,5 @@
 -- One more amount in a row.
-use Rattle.std.proofs.Common.{◌≡◌, ℕ, suc, ◌+◌, ◌-◌, ◌≤◌, max, List, ◌++◌, IfOk, Ok, Err, codes, decimal, Result, sym, refl, ap, ◌∙◌, arith}
+use Rattle.std.proofs.Common.{◌≡◌, ℕ, suc, ◌+◌, ◌-◌, ◌≤◌, max, List, ◌++◌, IfOk, Ok, Err, codes, decimal, Result, ap, ◌∙◌, arith}
 use Rattle.statement.specs.Rows.{row_text}
 
 pub one_more : (amount : ℕ → ℕ) (from place n : ℕ) (text word : List ℕ) → from ≤ place → n ≡ amount place → text ≡ row_text amount from (place - from) → word ≡ codes " " ++ decimal n

@@ -1,5 +1,5 @@
 -- Rows of amounts as text.
-use Rattle.std.specs.Prelude.{ℕ, zero, suc, ◌+◌, ◌-◌, Bool, true, false, cond, List, [], ◌++◌, Ok, Err, codes, decimal, Option, Result}
+use Rattle.std.specs.Prelude.{ℕ, zero, suc, ◌+◌, ◌-◌, cond, List, [], ◌++◌, Ok, Err, codes, decimal, Option, Result}
 use Rattle.book.specs.Ledger.{Ledger}
 use Rattle.rules.specs.declared.fault.HouseFault.{HouseFault}
 use Rattle.rules.specs.Faults.{Answer, is_accepted}

@@ -8,7 +8,7 @@ use std::alloc::{AllocError, Global};
 
 // What an account holds of each asset, each amount after a space.
 fn balances<B: Book>(heap: Global, book: &B, account: u8) -> Result<String, AllocError>
-    ensures { good book.now → IfOk result (λ text. string_bytes text ≡ row_text ((ledger book.now).held account) 0 (ledger book.now).assets) }
+    ensures { B.good book.now → IfOk result (λ text. string_bytes text ≡ row_text ((B.ledger book.now).held account) 0 (B.ledger book.now).assets) }
 {
     let mut text = String::new(heap);
     for asset in 0..book.assets() {
@@ -21,7 +21,7 @@ fn balances<B: Book>(heap: Global, book: &B, account: u8) -> Result<String, Allo
 
 // The line of one account: its number, and what it holds of each asset.
 pub fn account_line<B: Book>(heap: Global, book: &B, account: u8) -> Result<String, AllocError>
-    ensures { good book.now → IfOk result (λ text. string_bytes text ≡ account_text (ledger book.now) account) }
+    ensures { B.good book.now → IfOk result (λ text. string_bytes text ≡ account_text (B.ledger book.now) account) }
 {
     let amounts = balances(heap, book, account)?;
     format!(in heap; "account {account}{amounts}")

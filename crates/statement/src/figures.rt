@@ -16,7 +16,7 @@ use sheet::overview::{Closing, Overview};
 
 // Where the house stands.
 pub fn overview<B: Book, R: Rank>(house: &House<B, R>) -> Result<Overview, HouseFault>
-    ensures { Tells house.now.refusal accepted (overview_of house.now.figures (B.Book.ledger house.now.book)) result }
+    ensures { Tells house.now.refusal accepted (overview_of house.now.figures (B.ledger house.now.book)) result }
 {
     Ok(Overview {
         day: house.day()?,
@@ -37,7 +37,7 @@ pub fn closing<B: Book, R: Rank>(house: &House<B, R>, security: u8) -> Result<Cl
 
 // How a member stands.
 pub fn standing<B: Book, R: Rank>(house: &House<B, R>, member: u8) -> Result<Standing, HouseFault>
-    ensures { B.Book.good house.now.book → Tells house.now.refusal (member_answer house.now.figures member) (standing_of (state_of house.now.figures (B.Book.ledger house.now.book)) member) result }
+    ensures { B.good house.now.book → Tells house.now.refusal (member_answer house.now.figures member) (standing_of (state_of house.now.figures (B.ledger house.now.book)) member) result }
 {
     Ok(Standing {
         member,

@@ -41,7 +41,7 @@ fn or_none(answer: Result<u64, HouseFault>) -> u64
 
 // The amount at a place of a row, from 0 on. Nothing is shown of what the house has not.
 fn amount_in<B: Book, R: Rank>(house: &House<B, R>, column: Column, place: u8) -> u64
-    ensures { B.Book.good house.now.book → result ≡ amount_in house.now.refusal (state_of house.now.figures (B.Book.ledger house.now.book)) column place }
+    ensures { B.good house.now.book → result ≡ amount_in house.now.refusal (state_of house.now.figures (B.ledger house.now.book)) column place }
 {
     or_none(match column {
         Column::House(Own::Pool) => house.pool(place),
@@ -60,7 +60,7 @@ fn row<B: Book, R: Rank>(
     from: u8,
     to: u8,
 ) -> Result<String, AllocError>
-    ensures { B.Book.good house.now.book → IfOk result (λ text. string_bytes text ≡ row_text (amount_in house.now.refusal (state_of house.now.figures (B.Book.ledger house.now.book)) column) from (to - from)) }
+    ensures { B.good house.now.book → IfOk result (λ text. string_bytes text ≡ row_text (amount_in house.now.refusal (state_of house.now.figures (B.ledger house.now.book)) column) from (to - from)) }
 {
     let mut text = String::new(heap);
     for place in from..to {
@@ -88,7 +88,7 @@ pub fn own_line<B: Book, R: Rank>(
     own: Own,
     assets: u8,
 ) -> Result<String, AllocError>
-    ensures { B.Book.good house.now.book → IfOk result (λ text. string_bytes text ≡ own_text house.now.refusal (state_of house.now.figures (B.Book.ledger house.now.book)) own assets) }
+    ensures { B.good house.now.book → IfOk result (λ text. string_bytes text ≡ own_text house.now.refusal (state_of house.now.figures (B.ledger house.now.book)) own assets) }
 {
     let word = own_word(own);
     let amounts = row(heap, house, Column::House(own), 0, assets)?;
@@ -97,13 +97,13 @@ pub fn own_line<B: Book, R: Rank>(
 
 // The cash that a member has pledged, and what it has contributed. Nothing is shown of what the house has not.
 fn pledged<B: Book, R: Rank>(house: &House<B, R>, member: u8) -> u64
-    ensures { B.Book.good house.now.book → result ≡ cash_on house.now.refusal (state_of house.now.figures (B.Book.ledger house.now.book)) member (collateral member) }
+    ensures { B.good house.now.book → result ≡ cash_on house.now.refusal (state_of house.now.figures (B.ledger house.now.book)) member (collateral member) }
 {
     or_none(house.collateral(member))
 }
 
 fn contributed<B: Book, R: Rank>(house: &House<B, R>, member: u8) -> u64
-    ensures { B.Book.good house.now.book → result ≡ cash_on house.now.refusal (state_of house.now.figures (B.Book.ledger house.now.book)) member (contribution member) }
+    ensures { B.good house.now.book → result ≡ cash_on house.now.refusal (state_of house.now.figures (B.ledger house.now.book)) member (contribution member) }
 {
     or_none(house.contribution(member))
 }
@@ -139,7 +139,7 @@ pub fn holdings_line<B: Book, R: Rank>(
     member: u8,
     assets: u8,
 ) -> Result<String, AllocError>
-    ensures { B.Book.good house.now.book → IfOk result (λ text. string_bytes text ≡ holdings_text house.now.refusal (state_of house.now.figures (B.Book.ledger house.now.book)) member assets) }
+    ensures { B.good house.now.book → IfOk result (λ text. string_bytes text ≡ holdings_text house.now.refusal (state_of house.now.figures (B.ledger house.now.book)) member assets) }
 {
     let settled = row(heap, house, Column::Settlement(member), 0, assets)?;
     let escrowed = row(heap, house, Column::InEscrow(member), 1, assets)?;

@@ -6,10 +6,10 @@ use Rattle.statement.proofs.row.holdings_line.Goals as goal
 
 pub returns : goal.returns
 returns g c good =
-    let row = c.in-ok-settled.ensures good in
-    let settled = c.as-str-2.ensures.value ∙ (simp unary_clauses at row) in
-    let escrowed = c.as-str.ensures.value ∙ c.in-ok-escrowed.ensures good in
-    let guarantee = c.as-str-3.ensures.value ∙ c.in-ok-guarantee.ensures in
+    let row = c.in_ok-settled.ensures good in
+    let settled = c.as_str-2.ensures.value ∙ (simp unary_clauses at row) in
+    let escrowed = c.as_str.ensures.value ∙ c.in_ok-escrowed.ensures good in
+    let guarantee = c.as_str-3.ensures.value ∙ c.in_ok-guarantee.ensures in
     made_as string_bytes c.member_text.result _ _ c.member_text.ensures
     (λ i. member_text c.args.member (settled i)
     ((guarantee ∙ (λ k. guarantee_text (c.pledged-pledged.ensures good k) (c.contributed-contributed.ensures good k) (escrowed k))) i))

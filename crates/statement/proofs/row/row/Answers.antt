@@ -10,9 +10,9 @@ loop-place-preserved g c = (
   omega arith,
   λ good.
       let h = c.args.house.now in
-      pushed c.as-str.result.now refl c.in-ok-push-str.was c.push-str.ensures.bytes
-      ∙ one_more (amount_in h.refusal (state_of h.figures (g.B.Book.ledger h.book)) c.args.column) c.args.from c.loop-place.place c.amount-in-amount.result _ _
-      (omega arith) (c.amount-in-amount.ensures good) (c.loop-place.invariant.1 good) (c.as-str.ensures.value ∙ c.in-ok-word.ensures.ok),
+      pushed c.as_str.result.now refl c.in_ok-push_str.was c.push_str.ensures.bytes
+      ∙ one_more (amount_in h.refusal (state_of h.figures (g.B.Book.ledger h.book)) c.args.column) c.args.from c.loop-place.place c.amount_in-amount.result _ _
+      (omega arith) (c.amount_in-amount.ensures good) (c.loop-place.invariant.1 good) (c.as_str.ensures.value ∙ c.in_ok-word.ensures.ok),
 )
 
 pub returns : goal.returns
