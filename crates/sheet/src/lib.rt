@@ -1,6 +1,6 @@
 // The figures of a house as lines of text.
 #![tactic(auto)]
 
+pub mod lines;
 pub mod member;
 pub mod overview;
-pub mod register;
