@@ -10,7 +10,7 @@ const MOST_ACCOUNTS: u8 = 75;
 const MOST_ASSETS: u8 = 17;
 
 // Counts of accounts and assets that a book may have. Only `new` makes them.
-#[derive(Clone, Copy)]
+#[derive(Clone, Copy, PartialEq, Eq, Debug)]
 pub struct Counts {
     accounts: u8,
     assets: u8,
@@ -26,24 +26,21 @@ impl Counts {
         ensures answer { answer_number result ≡ counts_number accounts assets }
         ensures made { elim result [ Ok c ↦ (c.accounts ≡ accounts) × (c.assets ≡ assets) | Err _ ↦ Unit {0} ] }
     {
-        if accounts == 0 || accounts > MOST_ACCOUNTS || assets == 0 || assets > MOST_ASSETS {
-            return Err(BookFault::BadCounts);
+        if (1..=MOST_ACCOUNTS).contains(&accounts) && (1..=MOST_ASSETS).contains(&assets) {
+            Ok(Counts { accounts, assets })
+        } else {
+            Err(BookFault::BadCounts)
         }
-        Ok(Counts { accounts, assets })
     }
 
     pub fn accounts(self) -> u8
-        ensures value { result ≡ self.accounts }
-        ensures some { 0 < result }
-        ensures few { result ≤ most_accounts }
+        ensures { result ≡ self.accounts }
     {
         self.accounts
     }
 
     pub fn assets(self) -> u8
-        ensures value { result ≡ self.assets }
-        ensures some { 0 < result }
-        ensures few { result ≤ most_assets }
+        ensures { result ≡ self.assets }
     {
         self.assets
     }

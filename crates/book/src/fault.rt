@@ -4,13 +4,13 @@ ghost use Rattle.book.specs.Faults.{fault_number};
 
 #[derive(Clone, Copy, PartialEq, Eq, Debug)]
 pub enum BookFault {
-    NoAccount,
-    NoAsset,
-    BadAmount,
-    NoSpace,
-    TooLittle,
-    TooMuch,
-    BadCounts,
+    NoAccount = 20,
+    NoAsset = 2,
+    BadAmount = 4,
+    NoSpace = 6,
+    TooLittle = 7,
+    TooMuch = 8,
+    BadCounts = 19,
 }
 
 impl BookFault {
@@ -18,14 +18,6 @@ impl BookFault {
     pub fn number(self) -> u8
         ensures { result ≡ fault_number self }
     {
-        match self {
-            BookFault::NoAsset => 2,
-            BookFault::BadAmount => 4,
-            BookFault::NoSpace => 6,
-            BookFault::TooLittle => 7,
-            BookFault::TooMuch => 8,
-            BookFault::BadCounts => 19,
-            BookFault::NoAccount => 20,
-        }
+        self as u8
     }
 }

@@ -8,10 +8,7 @@ use crate::Book;
 pub fn holds<B: Book>(book: &B, account: u8, asset: u8) -> u64
     ensures { B.good book.now → result ≡ (B.ledger book.now).held account asset }
 {
-    match book.balance(account, asset) {
-        Ok(held) => held,
-        Err(_) => 0,
-    }
+    book.balance(account, asset).unwrap_or(0)
 }
 
 // Moves an amount where the book takes it. A movement of 0 is not made.

@@ -1,8 +1,13 @@
 // What a house looks at before it acts.
-ghost use Rattle.std.specs.Prelude.{◌≡◌};
+ghost use Rattle.std.specs.Prelude.{◌≡◌, ◌≤◌, IfOk};
+ghost use Rattle.rules.specs.declared.fault.HouseFault.TheVariants.{NoMember, NoAsset, NoFlag, BadAmount};
 ghost use Rattle.rules.specs.Events.{no_such_member, no_such_security, no_such_asset, no_such_flag, bad_amount, bad_quantity, bad_price};
+ghost use Rattle.rules.specs.Limits.{most_securities};
+ghost use Rattle.desk.specs.Refusing.{RefusedIf};
 
+use crate::accounts::MemberId;
 use register::line::MOST_QUANTITY;
+use rules::fault::HouseFault;
 use rules::figures::Figures;
 
 // The largest amount of one movement, and the highest price of a share.
@@ -10,48 +15,79 @@ const MOST_AMOUNT: u64 = 1_000_000_000_000_000;
 
 const MOST_PRICE: u32 = 1_000_000;
 
+// A security that was looked up: its number is one that a house may have.
+#[derive(Clone, Copy)]
+pub struct SecurityId {
+    pub number: u8,
+    ghost known: { number ≤ most_securities },
+}
+
 // Members are numbered from 1.
-pub fn no_member(f: &Figures, member: u8) -> bool
-    ensures { result ≡ no_such_member f.now member }
+pub fn known_member(f: &Figures, member: u8) -> Result<MemberId, HouseFault>
+    ensures answer { RefusedIf NoMember (no_such_member f.now member) result }
+    ensures number { IfOk result (λ m. m.number ≡ member) }
 {
-    member == 0 || member > f.size.members
+    if member == 0 || member > f.size.members {
+        return Err(HouseFault::NoMember);
+    }
+    Ok(MemberId { number: member })
 }
 
 // Securities are numbered from 1.
-pub fn no_security(f: &Figures, security: u8) -> bool
-    ensures { result ≡ no_such_security f.now security }
+pub fn known_security(f: &Figures, security: u8) -> Result<SecurityId, HouseFault>
+    ensures answer { RefusedIf NoAsset (no_such_security f.now security) result }
+    ensures number { IfOk result (λ s. s.number ≡ security) }
 {
-    security == 0 || security > f.size.securities
+    if security == 0 || security > f.size.securities {
+        return Err(HouseFault::NoAsset);
+    }
+    Ok(SecurityId { number: security })
 }
 
 // Asset 0 is cash, the others are the securities.
-pub fn no_asset(f: &Figures, asset: u8) -> bool
-    ensures { result ≡ no_such_asset f.now asset }
+pub fn known_asset(f: &Figures, asset: u8) -> Result<u8, HouseFault>
+    ensures answer { RefusedIf NoAsset (no_such_asset f.now asset) result }
+    ensures number { IfOk result (λ a. a ≡ asset) }
 {
-    asset > f.size.securities
+    if asset > f.size.securities {
+        return Err(HouseFault::NoAsset);
+    }
+    Ok(asset)
 }
 
 // Flags are numbered from 0 to 3.
-pub fn no_flag(flag: u8) -> bool
-    ensures { result ≡ no_such_flag flag }
+pub fn judge_flag(flag: u8) -> Result<(), HouseFault>
+    ensures { RefusedIf NoFlag (no_such_flag flag) result }
 {
-    flag > 3
+    if flag > 3 {
+        return Err(HouseFault::NoFlag);
+    }
+    Ok(())
 }
 
-pub fn bad_amount(amount: u64) -> bool
-    ensures { result ≡ bad_amount amount }
+pub fn judge_amount(amount: u64) -> Result<(), HouseFault>
+    ensures { RefusedIf BadAmount (bad_amount amount) result }
 {
-    amount == 0 || amount > MOST_AMOUNT
+    if amount == 0 || amount > MOST_AMOUNT {
+        return Err(HouseFault::BadAmount);
+    }
+    Ok(())
 }
 
-pub fn bad_quantity(quantity: u32) -> bool
-    ensures { result ≡ bad_quantity quantity }
+pub fn judge_quantity(quantity: u32) -> Result<(), HouseFault>
+    ensures { RefusedIf BadAmount (bad_quantity quantity) result }
 {
-    quantity == 0 || quantity > MOST_QUANTITY
+    if quantity == 0 || quantity > MOST_QUANTITY {
+        return Err(HouseFault::BadAmount);
+    }
+    Ok(())
 }
 
-pub fn bad_price(price: u32) -> bool
-    ensures { result ≡ bad_price price }
+pub fn judge_price(price: u32) -> Result<(), HouseFault>
+    ensures { RefusedIf BadAmount (bad_price price) result }
 {
-    price == 0 || price > MOST_PRICE
+    if price == 0 || price > MOST_PRICE {
+        return Err(HouseFault::BadAmount);
+    }
+    Ok(())
 }

@@ -1,7 +1,8 @@
 -- One entry after another: what is listed from a place on, by what is read there. Assumes nothing.
-use Rattle.std.proofs.Common.{◌≡◌, ℕ, zero, suc, ◌+◌, ◌≤◌, true, false, List, [], ◌∷◌, length, is_ok, Some, None, Ok, Err, Result, sym, refl, ap, ◌∙◌, arith}
+use Rattle.std.proofs.Common.{◌≡◌, ℕ, zero, suc, ◌+◌, ◌≤◌, true, List, [], ◌∷◌, length, is_ok, Some, None, Ok, Err, Option, Result, sym, refl, ap, ◌∙◌, arith}
 use Rattle.feed.specs.declared.fault.FeedFault.{FeedFault}
-use Rattle.feed.specs.Format.{Told, head, entry, end, Listed, ahead, closed, follow, list_at, list_from, after_head, verdict, judged, accepted, entries_of, entries}
+use Rattle.feed.specs.Readings.{Read}
+use Rattle.feed.specs.Format.{Told, entry, end, Listed, ahead, closed, onward, follow, list_at, list_from, judged, entries_of}
 use Rattle.feed.proofs.Forward.{no_entry, enough}
 
 pub judged_ahead : (e : ℕ × Told) (r : Listed) → judged (ahead e r) ≡ judged r
@@ -20,12 +21,23 @@ entries_ahead : (e : ℕ × Told) (r : Listed) → is_ok r ≡ true → entries_
 entries_ahead e (Ok es) h = refl
 entries_ahead e (Err f) h = let z : ◌≡◌ {A = ℕ} 0 1 = cc in absurd (omega arith)
 
-module _ (bs : List ℕ) where
-  pub refused_head : (f : FeedFault) → head bs 0 ≡ Err f → verdict bs ≡ Err f
-  refused_head f h = ap (λ r. judged (after_head bs r)) h
+few_ahead : (e : ℕ × Told) (r : Listed) (n : ℕ) → length (entries_of r) ≤ n → length (entries_of (ahead e r)) ≤ suc n
+few_ahead e (Ok es) n h = omega arith
+few_ahead e (Err f) n h = omega arith
 
-  pub past_head : (u : Unit {0}) (p : ℕ) → head bs 0 ≡ Ok (u, p) → verdict bs ≡ judged (list_from bs p)
-  past_head u p h = ap (λ r. judged (after_head bs r)) h
+module _ (bs : List ℕ) where
+  few_onward : (f : ℕ → Listed) (n p : ℕ) (e : Option Told) (q : ℕ) → ((q : ℕ) → length (entries_of (f q)) ≤ n) → length (entries_of (onward f bs p e q)) ≤ suc n
+  few_onward f n p (Some e) q h = few_ahead (p, e) (f q) n (h q)
+  few_onward f n p None q h = rw (none_closed (end bs q)) (omega arith)
+
+  few_follow : (f : ℕ → Listed) (n p : ℕ) (r : Read (Option Told)) → ((q : ℕ) → length (entries_of (f q)) ≤ n) → length (entries_of (follow f bs p r)) ≤ suc n
+  few_follow f n p (Ok r) h = few_onward f n p r.0 r.1 h
+  few_follow f n p (Err e) h = omega arith
+
+  -- no more entries than the list has fuel
+  pub few : (n p : ℕ) → length (entries_of (list_at n bs p)) ≤ n
+  few zero p = omega arith
+  few (suc n) p = few_follow (list_at n bs) n p (entry bs p) (few n)
 
   -- the list from p on is what is read at p, and then the list from there on
   turn_at : (n p : ℕ) → length bs ≤ n + p → list_at n bs p ≡ follow (list_at n bs) bs p (entry bs p)
@@ -36,23 +48,11 @@ module _ (bs : List ℕ) where
   turn p = turn_at (length bs) p (omega arith)
 
   module _ (p : ℕ) where
-    pub refused_entry : (f : FeedFault) → entry bs p ≡ Err f → list_from bs p ≡ Err f
-    refused_entry f h = turn p ∙ ap (follow (list_from bs) bs p) h
-
     pub at_end : (q : ℕ) → entry bs p ≡ Ok (None, q) → list_from bs p ≡ closed (end bs q)
     at_end q h = turn p ∙ ap (follow (list_from bs) bs p) h
 
     pub past_entry : (e : Told) (q : ℕ) → entry bs p ≡ Ok (Some e, q) → list_from bs p ≡ ahead (p, e) (list_from bs q)
     past_entry e q h = turn p ∙ ap (follow (list_from bs) bs p) h
-
-    pub never_refused : (f : FeedFault) → is_ok (list_from bs p) ≡ true → entry bs p ≡ Err f → ⊥
-    never_refused f g h =
-        let z : false ≡ true = sym (ap is_ok (refused_entry f h)) ∙ g in
-        let y : ◌≡◌ {A = ℕ} 0 1 = cc in
-        omega arith
-
-    pub last : (q : ℕ) → entry bs p ≡ Ok (None, q) → entries_of (list_from bs p) ≡ []
-    last q h = ap entries_of (at_end q h) ∙ none_closed (end bs q)
 
     module _ (e : Told) (q : ℕ) (h : entry bs p ≡ Ok (Some e, q)) (g : is_ok (list_from bs p) ≡ true) where
       pub still_good : is_ok (list_from bs q) ≡ true
@@ -60,21 +60,3 @@ module _ (bs : List ℕ) where
 
       pub one_less : entries_of (list_from bs p) ≡ (p, e) ∷ entries_of (list_from bs q)
       one_less = ap entries_of (past_entry e q h) ∙ entries_ahead (p, e) (list_from bs q) still_good
-
--- accepted bytes have a head, and their entries are those from its end on
-module _ (bs : List ℕ) (g : accepted bs ≡ true) where
-  pub head_accepted : (f : FeedFault) → head bs 0 ≡ Err f → ⊥
-  head_accepted f h =
-      let z : false ≡ true = sym (ap is_ok (refused_head bs f h)) ∙ g in
-      let y : ◌≡◌ {A = ℕ} 0 1 = cc in
-      omega arith
-
-  ok_judged : (r : Listed) → is_ok (judged r) ≡ is_ok r
-  ok_judged (Ok es) = refl
-  ok_judged (Err f) = refl
-
-  pub first_good : (u : Unit {0}) (p : ℕ) → head bs 0 ≡ Ok (u, p) → is_ok (list_from bs p) ≡ true
-  first_good u p h = sym (ok_judged (list_from bs p)) ∙ sym (ap is_ok (past_head bs u p h)) ∙ g
-
-  pub all_entries : (u : Unit {0}) (p : ℕ) → head bs 0 ≡ Ok (u, p) → entries bs ≡ entries_of (list_from bs p)
-  all_entries u p h = ap (λ r. entries_of (after_head bs r)) h

@@ -1,16 +1,16 @@
 ghost use Rattle.std.specs.Prelude.{◌≡◌};
 ghost use Rattle.feed.specs.Faults.{number_of};
 
-/// Why the bytes of a feed are refused.
+/// Why the bytes of a feed are refused. Each value is the refusal's number.
 #[derive(Clone, Copy, Debug, PartialEq, Eq)]
 pub enum FeedFault {
-    Mark,
-    Version,
-    CutShort,
-    Kind,
-    Length,
-    FlagLetters,
-    AfterEnd,
+    Mark = 21,
+    Version = 22,
+    CutShort = 23,
+    Kind = 24,
+    Length = 25,
+    FlagLetters = 26,
+    AfterEnd = 27,
 }
 
 impl FeedFault {
@@ -18,14 +18,6 @@ impl FeedFault {
     pub fn number(self) -> u8
         ensures { result ≡ number_of self }
     {
-        match self {
-            FeedFault::Mark => 21,
-            FeedFault::Version => 22,
-            FeedFault::CutShort => 23,
-            FeedFault::Kind => 24,
-            FeedFault::Length => 25,
-            FeedFault::FlagLetters => 26,
-            FeedFault::AfterEnd => 27,
-        }
+        self as u8
     }
 }

@@ -1,4 +1,4 @@
-ghost use Rattle.std.specs.Prelude.{◌≡◌, true};
+ghost use Rattle.std.specs.Prelude.{◌≡◌, ◌<◌, ◌^◌, true, length};
 ghost use Rattle.feed.specs.Format.{verdict, accepted, entries as entries_of};
 ghost use Rattle.feed.specs.Coming.{coming};
 
@@ -32,6 +32,7 @@ impl<'a> RawFeed<'a> {
     {
         let mut reader = Reader::at(self.bytes, 0);
         reader.head()?;
+        // An entry may be refused, so a `while` with `?` is plainer here than an iterator over results.
         while let Some(_) = reader.entry()? {}
         reader.end()
     }
@@ -48,7 +49,8 @@ impl<'a> RawFeed<'a> {
 impl<'a> CheckedFeed<'a> {
     /// The entries from the first on. The feed is used up.
     pub fn entries(self) -> Entries<'a>
-        ensures { coming result ≡ entries_of self.entry.bytes.now }
+        ensures all { coming result ≡ entries_of self.entry.bytes.now }
+        ensures bound { length (coming result) < 2 ^ 64 }
     {
         Entries::after_head(self.bytes)
     }

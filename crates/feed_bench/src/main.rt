@@ -1,6 +1,6 @@
 #![tactic(auto)]
 
-use anyhow::anyhow;
+use anyhow::Context;
 use feed::entry::Entry;
 use feed::fault::FeedFault;
 use feed::feed::RawFeed;
@@ -34,64 +34,49 @@ fn trade(number: u32) -> Entry<'static> {
 
 /// Writes a feed of so many trades, and gives its length.
 fn fill(out: &mut [u8], trades: u32) -> Result<usize, WriteFault> {
-    let none: [Entry<'static>; 0] = [];
-    write_feed(out, &none)?;
+    write_feed(out, &[])?;
     let mut place = FIRST;
     for number in 0..trades {
         place = write_entry(out, place, &trade(number))?;
     }
-    if place >= out.len() {
-        return Err(WriteFault::Room);
-    }
-    out[place] = b'Z';
+    *out.get_mut(place).ok_or(WriteFault::Room)? = b'Z';
     Ok(place + 1)
 }
 
 /// How many entries a feed has.
-fn count(raw: RawFeed<'_>) -> Result<u32, FeedFault> {
+fn count(raw: RawFeed<'_>) -> Result<usize, FeedFault> {
     raw.check()?;
-    let mut entries = raw.checked().entries();
-    let mut found: u32 = 0;
-    while let Some(_) = entries.next() {
-        found = found.saturating_add(1);
-    }
-    Ok(found)
+    Ok(raw.checked().entries().count())
 }
 
 /// Millions of bytes a second.
 fn rate(bytes: usize, took: Duration) -> u128 {
-    let micros = took.as_micros();
-    if micros == 0 {
-        0
-    } else {
-        bytes as u128 / micros
-    }
+    (bytes as u128).checked_div(took.as_micros()).unwrap_or(0)
 }
 
 /// The number of trades asked for: the program's argument, or a thousand.
 fn asked(rt: &HostRuntime) -> anyhow::Result<u32> {
-    match env::args(rt)?.nth(1) {
-        Some(arg) => Ok(arg.as_str().parse::<u32>()?),
-        None => Ok(1000),
-    }
+    let Some(arg) = env::args(rt)?.nth(1) else {
+        return Ok(1000);
+    };
+    Ok(arg.as_str().parse()?)
 }
 
 fn run(rt: &HostRuntime) -> anyhow::Result<()> {
     let trades = asked(rt)?;
     let mut out = vec![in rt.alloc(); 0u8; (trades as usize + 1) * LONGEST]?;
-    let Ok(length) = fill(&mut out, trades) else {
-        return Err(anyhow!("the feed was not written"));
-    };
-    let Some(bytes) = out.as_slice().get(0..length) else {
-        return Err(anyhow!("the feed was not written"));
-    };
+    let length = fill(&mut out, trades)
+        .ok()
+        .context("the feed was not written")?;
+    let bytes = out
+        .as_slice()
+        .get(..length)
+        .context("the feed was not written")?;
     let raw = RawFeed::over(bytes);
     let start = Instant::now(rt)?;
     let accepted = raw.check().is_ok();
     let took = start.elapsed(rt)?;
-    let Ok(found) = count(raw) else {
-        return Err(anyhow!("the feed is refused"));
-    };
+    let found = count(raw).ok().context("the feed is refused")?;
     println!(rt; "{found} entries in {length} bytes, accepted: {accepted}")?;
     eprintln!(rt; "check: {} MB/s", rate(length, took))?;
     Ok(())

@@ -2,8 +2,8 @@
 
 ghost use Rattle.std.specs.Prelude.{◌≡◌, ◌<◌};
 ghost use Rattle.feed.specs.Format.{verdict};
-ghost use Rattle.feed_cases.specs.Codes.{code};
 
+use feed::fault::FeedFault;
 use feed::feed::RawFeed;
 use std::io::{BufWriter, Write};
 use std::{fmt, io};
@@ -14,28 +14,23 @@ const FEED: [u8; LENGTH] =
 
 const LENGTH: usize = 50;
 
-/// What check says: 0 where it accepts, else the number of the refusal.
+/// What check says, shown as `ok` where it accepts, else as the number of the refusal.
 #[derive(Clone, Copy, PartialEq, Eq)]
-struct Answer(u8);
+struct Answer(Result<(), FeedFault>);
 
 impl fmt::Display for Answer {
     fn fmt<W: fmt::Write>(&self, f: &mut fmt::Formatter<W>) -> fmt::Result {
-        let number = self.0;
-        if number == 0 {
-            write!(f, "ok")
-        } else {
-            write!(f, "{number}")
+        match self.0 {
+            Ok(()) => write!(f, "ok"),
+            Err(fault) => write!(f, "{}", fault.number()),
         }
     }
 }
 
 fn answer_to(bytes: &[u8]) -> Answer
-    ensures { result.0 ≡ code (verdict bytes.now) }
+    ensures { result.0 ≡ verdict bytes.now }
 {
-    match RawFeed::over(bytes).check() {
-        Ok(()) => Answer(0),
-        Err(fault) => Answer(fault.number()),
-    }
+    Answer(RawFeed::over(bytes).check())
 }
 
 /// A run of byte values for which check says the same.
@@ -49,7 +44,7 @@ fn show_run<W: Write>(out: &mut W, first: u8, last: u8, answer: Answer) -> io::R
 
 /// What check says of the feed with another byte at a place.
 fn changed(place: usize, value: u8) -> Answer
-    requires { place < 50 }
+    requires { place < LENGTH }
 {
     let mut feed = FEED;
     feed[place] = value;
@@ -58,7 +53,7 @@ fn changed(place: usize, value: u8) -> Answer
 
 /// What check says for every value of the byte at a place, in runs.
 fn show_changes<W: Write>(out: &mut W, place: usize) -> io::Result<()>
-    requires { place < 50 }
+    requires { place < LENGTH }
 {
     write!(out, "byte {place}: ")?;
     let mut first: u8 = 0;
@@ -78,8 +73,8 @@ fn show_changes<W: Write>(out: &mut W, place: usize) -> io::Result<()>
 
 fn main(rt: HostRuntime) -> io::Result<()> {
     let mut out = BufWriter::new(rt.alloc(), rt.stdout())?;
-    for n in 0..LENGTH + 1 {
-        let answer = answer_to(&FEED[0..n]);
+    for n in 0..=LENGTH {
+        let answer = answer_to(&FEED[..n]);
         writeln!(out, "first {n}: {answer}")?;
     }
     for place in 0..LENGTH {

@@ -1,55 +1,47 @@
 #![tactic(auto)]
 
-use feed::entry::Entry;
+use feed::entry::{Entry, Item};
 use feed::feed::{CheckedFeed, RawFeed};
-use rank::key::Flag;
-use std::io;
 use std::io::{BufWriter, Read, Write};
+use std::{fmt, io};
 
-fn letters(flag: Flag) -> &'static str {
-    match flag {
-        Flag::LocalPrincipal => "LP",
-        Flag::LocalClient => "LC",
-        Flag::ForeignPrincipal => "FP",
-        Flag::ForeignClient => "FC",
-    }
-}
+/// An entry as a line of text, its reference in hexadecimal.
+#[derive(Clone, Copy)]
+struct Line<'a>(Item<'a>);
 
-/// Writes an entry as a line of text, its reference in hexadecimal.
-fn show<W: Write>(out: &mut W, place: usize, entry: &Entry<'_>) -> io::Result<()> {
-    match entry {
-        Entry::Trade {
-            reference,
-            buyer,
-            buyer_flag,
-            seller,
-            seller_flag,
-            security,
-            quantity,
-            price,
-        } => {
-            write!(out, "{place}: trade ")?;
-            for b in *reference {
-                write!(out, "{b:02x}")?;
+impl fmt::Display for Line<'_> {
+    fn fmt<W: fmt::Write>(&self, f: &mut fmt::Formatter<W>) -> fmt::Result {
+        let Item { place, entry } = self.0;
+        match entry {
+            Entry::Trade {
+                reference,
+                buyer,
+                buyer_flag,
+                seller,
+                seller_flag,
+                security,
+                quantity,
+                price,
+            } => {
+                write!(f, "{place}: trade ")?;
+                for b in reference {
+                    write!(f, "{b:02x}")?;
+                }
+                write!(
+                    f,
+                    ", {buyer} {buyer_flag} buys from {seller} {seller_flag}: {quantity} of security {security} at {price}"
+                )
             }
-            let bought = letters(*buyer_flag);
-            let sold = letters(*seller_flag);
-            writeln!(
-                out,
-                ", {buyer} {bought} buys from {seller} {sold}: {quantity} of security {security} at {price}"
-            )
+            Entry::Close { security, price } => {
+                write!(f, "{place}: close of security {security} at {price}")
+            }
         }
-        Entry::Close { security, price } => writeln!(
-            out,
-            "{place}: close of security {security} at {price}"
-        ),
     }
 }
 
 fn show_all<W: Write>(out: &mut W, feed: CheckedFeed<'_>) -> io::Result<()> {
-    let mut entries = feed.entries();
-    while let Some(item) = entries.next() {
-        show(out, item.place, &item.entry)?;
+    for item in feed.entries() {
+        writeln!(out, "{}", Line(item))?;
     }
     Ok(())
 }

@@ -38,18 +38,8 @@ module _ (room p : ℕ) (es : List Entry) (i : ℕ) where
   pub no_more : length es ≤ i → list_end room p (map told (drop i es)) ≡ cond (ltb room (p + 1)) (Err Room) (Ok (p + 1))
   no_more l = at_drop_all (λ xs. list_end room p (map told xs)) es i l
 
-  pub within_room : {q : ℕ} (d : Entry) → Ok q ≡ entry_end room p (told (get_or es i d)) → q ≤ room
-  within_room {q} d h = let f = fitted room p (told (get_or es i d)) q h in omega (arith, f.ends, f.room_for)
-
-  -- where the whole is written, so is the entry at i
+  -- where the whole is written, so is the entry at i, and then what follows it
   module _ (n : ℕ) (d : Entry) (l : i < length es) (whole : list_end room p (map told (drop i es)) ≡ Ok n) where
-    goes : (r : Result ℕ WriteFault) → r ≡ entry_end room p (told (get_or es i d)) → Fitted room p (told (get_or es i d)) (p + length (bytes (told (get_or es i d))))
-    goes (Ok q) h = let f = fitted room p (told (get_or es i d)) q h in record { soundly = f.soundly; ends = refl; room_for = f.room_for }
-    goes (Err f) h = let r = refused_at d l h in let z : ◌≡◌ {A = ℕ} 0 1 = cc in absurd (omega arith)
-
-    pub fitted_at : Fitted room p (told (get_or es i d)) (p + length (bytes (told (get_or es i d))))
-    fitted_at = goes (entry_end room p (told (get_or es i d))) refl
-
     same_end : (r : Result ℕ WriteFault) → r ≡ entry_end room p (told (get_or es i d)) → Ok (p + length (bytes (told (get_or es i d)))) ≡ entry_end room p (told (get_or es i d))
     same_end (Ok q) h = let f = fitted room p (told (get_or es i d)) q h in ap Ok (sym f.ends) ∙ h
     same_end (Err f) h = let r = refused_at d l h in let z : ◌≡◌ {A = ℕ} 0 1 = cc in absurd (omega arith)

@@ -1,7 +1,7 @@
 -- The bytes of an entry and of a feed. Assumes nothing.
 use Rattle.std.specs.Prelude.{◌≡◌, ℕ, ◌+◌, ◌/◌, ◌%◌, ◌^◌, ◌<◌, ◌≤◌, Bool, true, cond, ◌&&◌, List, [], ◌∷◌, ◌++◌, length, take, drop, Ok, Err, codes, Result, All, flat_map, nat_le, nat_lt}
 use Rattle.rank.specs.declared.key.Flag.{Flag}
-use Rattle.rank.specs.declared.key.Flag.TheVariants.{LocalPrincipal, LocalClient, ForeignPrincipal, ForeignClient}
+use Rattle.rank.specs.Keys.{flag_letters}
 use Rattle.feed.specs.Format.{Told, trade, close, most_reference, listed}
 use Rattle.feed_write.specs.declared.fault.WriteFault.{WriteFault}
 use Rattle.feed_write.specs.declared.fault.WriteFault.TheVariants as fault
@@ -10,11 +10,9 @@ use Rattle.feed_write.specs.declared.fault.WriteFault.TheVariants as fault
 abbrev pub word : ℕ → List ℕ
 word n = n / 16777216 % 256 ∷ n / 65536 % 256 ∷ n / 256 % 256 ∷ n % 256 ∷ []
 
+-- the two letters of a flag
 abbrev pub letters : Flag → List ℕ
-letters LocalPrincipal = codes "LP"
-letters LocalClient = codes "LC"
-letters ForeignPrincipal = codes "FP"
-letters ForeignClient = codes "FC"
+letters = flag_letters
 
 -- an entry: its letter and its fields
 abbrev pub bytes : Told → List ℕ

@@ -2,7 +2,6 @@
 
 pub mod fault;
 pub mod law;
-mod parts;
 #[cfg(test)]
 mod tests;
 pub mod write;

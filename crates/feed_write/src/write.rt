@@ -1,16 +1,17 @@
 ghost use Rattle.std.specs.Prelude.{◌≡◌, ◌+◌, ◌<◌, ◌≤◌, true, map, length, take, is_ok, IfOk, Some, Ok};
 ghost use Rattle.feed.specs.Format.{entry as entry_of, listed};
 ghost use Rattle.feed.specs.Shown.{told};
-ghost use Rattle.feed_write.specs.Written.{Wrote, bytes, sound as sound_is, size as size_of, entry_end, feed_end, feed_bytes, first, placed, WroteIf, WellFormed};
+ghost use Rattle.feed_write.specs.Written.{Wrote, bytes, letters, sound as sound_is, size as size_of, entry_end, feed_end, feed_bytes, first, placed, WroteIf, WellFormed};
 
 use crate::fault::WriteFault;
-use crate::parts::{close, party, terms};
 use feed::entry::{Entry, MOST_REFERENCE};
+use rank::key::Flag;
 
 /// The place of the first entry, after the mark and the version.
 pub const FIRST: usize = 5;
 
 /// Writes the part over out from a place on, and gives the place after it.
+// A cursor of the two would be no plainer: callers lend out and give and get places, so each would make one and take it apart.
 fn put(out: &mut [u8], place: usize, part: &[u8]) -> usize
     requires { place + length part.now ≤ length out.old }
     ensures { Wrote out.old place part.now out.new result }
@@ -18,6 +19,14 @@ fn put(out: &mut [u8], place: usize, part: &[u8]) -> usize
     let end = place + part.len();
     out[place..end].copy_from_slice(part);
     end
+}
+
+/// Writes the letters of a flag, and gives the place after them.
+fn put_flag(out: &mut [u8], place: usize, flag: Flag) -> usize
+    requires { place + length (letters flag) ≤ length out.old }
+    ensures { Wrote out.old place (letters flag) out.new result }
+{
+    put(out, place, flag.letters().as_bytes())
 }
 
 /// How many bytes an entry takes.
@@ -39,11 +48,8 @@ fn size(entry: &Entry<'_>) -> Result<usize, WriteFault>
 fn entry_end(entry: &Entry<'_>, place: usize, room: usize) -> Result<usize, WriteFault>
     ensures { result ≡ entry_end room place (told entry.now) }
 {
-    let size = size(entry)?;
-    if place > room || room - place < size {
-        return Err(WriteFault::Room);
-    }
-    Ok(place + size)
+    let end = place.checked_add(size(entry)?);
+    end.filter(|end| *end <= room).ok_or(WriteFault::Room)
 }
 
 /// Writes an entry at a place where there is room for it, and gives the place after it.
@@ -66,11 +72,18 @@ fn put_entry(out: &mut [u8], place: usize, entry: &Entry<'_>) -> usize
         } => {
             let at = put(out, place, &[b'T', reference.len() as u8]);
             let at = put(out, at, reference);
-            let at = put(out, at, &party(*buyer, *buyer_flag));
-            let at = put(out, at, &party(*seller, *seller_flag));
-            put(out, at, &terms(*security, *quantity, *price))
+            let at = put(out, at, &[*buyer]);
+            let at = put_flag(out, at, *buyer_flag);
+            let at = put(out, at, &[*seller]);
+            let at = put_flag(out, at, *seller_flag);
+            let at = put(out, at, &[*security]);
+            let at = put(out, at, &quantity.to_be_bytes());
+            put(out, at, &price.to_be_bytes())
         }
-        Entry::Close { security, price } => put(out, place, &close(*security, *price)),
+        Entry::Close { security, price } => {
+            let at = put(out, place, &[b'C', *security]);
+            put(out, at, &price.to_be_bytes())
+        }
     }
 }
 

@@ -1,18 +1,16 @@
 -- Books of which every balance is 0, and houses over them.
-use Rattle.std.proofs.Common.{◌≡◌, ℕ, ◌+◌, ◌*◌, ◌<◌, ◌≤◌, Bool, true, false, cond, not, ◌&&◌, eqb, Some, None, Option, sym, refl, ap, ◌∙◌, subst, ⊎_elim, arith}
+use Rattle.std.proofs.Common.{◌≡◌, ℕ, ◌+◌, ◌*◌, ◌<◌, ◌≤◌, Bool, true, false, cond, not, ◌&&◌, eqb, sym, refl, ap, ⊎_elim, arith}
 use mathlib.Core.Path.{fun_ext}
 use Rattle.std.proofs.lemmas.Bool.{ne_eqb, eqb-true, eqb-false, cases_lt, and_parts, not-false, ltb-true, leb-true, both_ways}
 use Rattle.book.specs.Ledger.{Ledger, Sound, sum_to}
 use Rattle.book.proofs.Sums.{term_within_sum, sum_more}
-use Rattle.rules.specs.declared.fault.HouseFault.{HouseFault}
-use Rattle.rules.specs.declared.figures.Figures.{Figures}
 use Rattle.rules.specs.Faults.{accepted, refused, house_layer, is_accepted}
 use Rattle.rules.specs.Limits.{most_members, most_securities}
 use Rattle.rules.specs.State.{opened_figures}
 use Rattle.rules.specs.Events.{book_sum, open_answer, suits}
 use Rattle.rules.specs.Fit.{Fit}
 use Rattle.rules.proofs.Fits.{bounds_kept}
-use Rattle.house.specs.Opened.{Opened, OpenedBy, answer_told, bad_counts, first_figures}
+use Rattle.house.specs.Opened.{Opened, bad_counts}
 
 pub not_empty : (n : ℕ) (f : ℕ → ℕ) (a : ℕ) → a < n → 0 < f a → false ≡ eqb (sum_to n f) 0
 not_empty n f a l h = sym (ne_eqb (sum_to n f) 0 (λ e. let t = term_within_sum n f a l in omega arith))
@@ -38,13 +36,9 @@ in_range m s e =
     let b = and_parts _ _ p.1 in
     ((ltb-true _ _ a.0, leb-true _ _ a.1), (ltb-true _ _ b.0, leb-true _ _ b.1))
 
--- The first figures are within their bounds, whether the house is refused or not.
-first_fits : (o : Option HouseFault) (m s : ℕ) → (o ≡ None → bad_counts m s ≡ false) → Fit (first_figures o m s)
-first_fits None m s h = let r = in_range m s (h refl) in bounds_kept.0 m s r.0.0 r.0.1 r.1.0 r.1.1
-first_fits (Some x) m s h = bounds_kept.0 1 1 (omega arith) (omega arith) (omega arith) (omega arith)
-
-pub first_fit : (o : Option HouseFault) (m s : ℕ) (f : Figures) → f ≡ first_figures o m s → (o ≡ None → bad_counts m s ≡ false) → Fit f
-first_fit o m s f e h = subst Fit (sym e) (first_fits o m s h)
+-- The figures of a house as it is opened are within their bounds.
+pub opened_fit : (m s : ℕ) → bad_counts m s ≡ false → Fit (opened_figures m s)
+opened_fit m s e = let r = in_range m s e in bounds_kept.0 m s r.0.0 r.0.1 r.1.0 r.1.1
 
 -- No balance of a sound book whose balances add to 0 is above 0.
 empty_held : (b : Ledger) → Sound b → book_sum b ≡ 0 → b.held ≡ (λ a t. 0)
@@ -68,7 +62,7 @@ accepted_both true y e = absurd (both_ways false refl (ap is_accepted (sym e)))
 accepted_both false true e = absurd (both_ways false refl (ap is_accepted (sym e)))
 accepted_both false false e = (refl, refl)
 
-opens : (b : Ledger) (m s : ℕ) → Sound b → accepted ≡ open_answer b m s → Opened b m s (opened_figures m s)
+pub opens : (b : Ledger) (m s : ℕ) → Sound b → accepted ≡ open_answer b m s → Opened b m s (opened_figures m s)
 opens b m s sound e = record {
   state = λ i. record { figures = opened_figures m s; accounts = accounts i; assets = assets i; held = empty_held b sound nothing i };
   counted = record { accounts = accounts; assets = assets };
@@ -88,10 +82,3 @@ opens b m s sound e = record {
 
     nothing : book_sum b ≡ 0
     nothing = eqb-true _ _ (and_parts (eqb b.assets (s + 1)) _ rest).1
-
-pub opened_by : (b : Ledger) (m s : ℕ) (o : Option HouseFault) (f : Figures) → Sound b → f ≡ first_figures o m s → answer_told o ≡ open_answer b m s
-    → OpenedBy b m s o f
-opened_by b m s o f sound e a = record {
-  answer = a;
-  opened = λ n. subst (Opened b m s) (sym (e ∙ ap (λ (o : Option HouseFault). first_figures o m s) n)) (opens b m s sound (ap answer_told (sym n) ∙ a));
-}

@@ -1,2 +1,3 @@
-pub mod Emptiness
-pub mod Passing
+mod Emptiness
+mod Made
+mod Novated

@@ -1,2 +1,3 @@
 pub mod Handled
+pub mod Seen
 pub mod Opened

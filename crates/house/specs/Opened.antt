@@ -6,7 +6,7 @@ use Rattle.rules.specs.declared.fault.HouseFault.{HouseFault}
 use Rattle.rules.specs.declared.figures.Figures.{Figures}
 use Rattle.rules.specs.Faults.{Answer, accepted, refusal}
 use Rattle.rules.specs.Limits.{most_members, most_securities}
-use Rattle.rules.specs.State.{opened, opened_figures}
+use Rattle.rules.specs.State.{opened}
 use Rattle.rules.specs.Events.{open_answer}
 use Rattle.desk.specs.Passed.{state_of}
 use Rattle.house.specs.Handled.{Counted}
@@ -19,11 +19,6 @@ bad_counts m s = not (from_one_to most_members m && from_one_to most_securities 
 abbrev pub answer_told : Option HouseFault → Answer
 answer_told None = accepted
 answer_told (Some x) = refusal x
-
--- The figures that a house has at first. Nobody reads those of a refused one.
-abbrev pub first_figures : Option HouseFault → ℕ → ℕ → Figures
-first_figures None m s = opened_figures m s
-first_figures (Some x) m s = opened_figures 1 1
 
 -- A house that opens over a book b is in the state that every life begins in.
 pub record Opened (b : Ledger) (m s : ℕ) (f : Figures) : Type 0 where

@@ -1,11 +1,12 @@
 // What a house is told. A house that was refused at its opening answers every event by that refusal.
-ghost use Rattle.std.specs.Prelude.{◌≡◌};
 ghost use Rattle.rules.specs.declared.event.Event.TheVariants.{Bring, Take, Endow, Pledge, Refund, Contribute, Novate, Price};
 ghost use Rattle.rules.specs.Faults.{answer_of};
-ghost use Rattle.house.specs.Handled.{AnsweredBy};
+ghost use Rattle.house.specs.Seen.{Told};
 
+use crate::asking::opened;
 use crate::house::House;
 use book::Book;
+use desk::accounts::Purse;
 use moving::accounts;
 use moving::pricing::set_close;
 use rank::Rank;
@@ -16,105 +17,71 @@ use trading::netting;
 impl<B: Book, R: Rank> House<B, R> {
     // An amount from outside into the member's settlement account.
     pub fn bring(&mut self, member: u8, asset: u8, amount: u64) -> Result<(), HouseFault>
-        ensures handled { B.good self.old.book → AnsweredBy self.old.refusal (R.goes self.old.rank) (Bring member asset amount) self.old.figures (B.ledger self.old.book) (answer_of result) self.new.figures (B.ledger self.new.book) }
-        ensures stays { B.good self.old.book → B.good self.new.book }
-        ensures rank { self.new.rank ≡ self.old.rank }
-        ensures refusal { self.new.refusal ≡ self.old.refusal }
+        ensures { Told B.good B.ledger R.goes (Bring member asset amount) self.old (answer_of result) self.new }
     {
-        if let Some(fault) = self.refusal {
-            return Err(fault);
-        }
-        accounts::bring(&mut self.book, &self.figures, member, asset, amount)
+        let figures = opened(&self.state)?;
+        accounts::bring(&mut self.book, figures, member, asset, amount)
     }
 
     // An amount from the member's settlement account to outside.
     pub fn take(&mut self, member: u8, asset: u8, amount: u64) -> Result<(), HouseFault>
-        ensures handled { B.good self.old.book → AnsweredBy self.old.refusal (R.goes self.old.rank) (Take member asset amount) self.old.figures (B.ledger self.old.book) (answer_of result) self.new.figures (B.ledger self.new.book) }
-        ensures stays { B.good self.old.book → B.good self.new.book }
-        ensures rank { self.new.rank ≡ self.old.rank }
-        ensures refusal { self.new.refusal ≡ self.old.refusal }
+        ensures { Told B.good B.ledger R.goes (Take member asset amount) self.old (answer_of result) self.new }
     {
-        if let Some(fault) = self.refusal {
-            return Err(fault);
-        }
-        accounts::take(&mut self.book, &self.figures, member, asset, amount)
+        let figures = opened(&self.state)?;
+        accounts::take(&mut self.book, figures, member, asset, amount)
     }
 
     // Cash from outside into the reserve.
     pub fn endow(&mut self, amount: u64) -> Result<(), HouseFault>
-        ensures handled { B.good self.old.book → AnsweredBy self.old.refusal (R.goes self.old.rank) (Endow amount) self.old.figures (B.ledger self.old.book) (answer_of result) self.new.figures (B.ledger self.new.book) }
-        ensures stays { B.good self.old.book → B.good self.new.book }
-        ensures rank { self.new.rank ≡ self.old.rank }
-        ensures refusal { self.new.refusal ≡ self.old.refusal }
+        ensures { Told B.good B.ledger R.goes (Endow amount) self.old (answer_of result) self.new }
     {
-        if let Some(fault) = self.refusal {
-            return Err(fault);
-        }
+        opened(&self.state)?;
         accounts::endow(&mut self.book, amount)
     }
 
     // Cash from the member's settlement account to its collateral.
     pub fn pledge(&mut self, member: u8, amount: u64) -> Result<(), HouseFault>
-        ensures handled { B.good self.old.book → AnsweredBy self.old.refusal (R.goes self.old.rank) (Pledge member amount) self.old.figures (B.ledger self.old.book) (answer_of result) self.new.figures (B.ledger self.new.book) }
-        ensures stays { B.good self.old.book → B.good self.new.book }
-        ensures rank { self.new.rank ≡ self.old.rank }
-        ensures refusal { self.new.refusal ≡ self.old.refusal }
+        ensures { Told B.good B.ledger R.goes (Pledge member amount) self.old (answer_of result) self.new }
     {
-        if let Some(fault) = self.refusal {
-            return Err(fault);
-        }
-        accounts::pledge(&mut self.book, &self.figures, member, amount)
+        let figures = opened(&self.state)?;
+        accounts::set_aside(&mut self.book, figures, member, Purse::Collateral, amount)
     }
 
     // Cash from the member's settlement account to its contribution.
     pub fn contribute(&mut self, member: u8, amount: u64) -> Result<(), HouseFault>
-        ensures handled { B.good self.old.book → AnsweredBy self.old.refusal (R.goes self.old.rank) (Contribute member amount) self.old.figures (B.ledger self.old.book) (answer_of result) self.new.figures (B.ledger self.new.book) }
-        ensures stays { B.good self.old.book → B.good self.new.book }
-        ensures rank { self.new.rank ≡ self.old.rank }
-        ensures refusal { self.new.refusal ≡ self.old.refusal }
+        ensures { Told B.good B.ledger R.goes (Contribute member amount) self.old (answer_of result) self.new }
     {
-        if let Some(fault) = self.refusal {
-            return Err(fault);
-        }
-        accounts::contribute(&mut self.book, &self.figures, member, amount)
+        let figures = opened(&self.state)?;
+        accounts::set_aside(&mut self.book, figures, member, Purse::Contribution, amount)
     }
 
     // Cash from the member's collateral to its settlement account.
     pub fn refund(&mut self, member: u8, amount: u64) -> Result<(), HouseFault>
-        ensures handled { B.good self.old.book → AnsweredBy self.old.refusal (R.goes self.old.rank) (Refund member amount) self.old.figures (B.ledger self.old.book) (answer_of result) self.new.figures (B.ledger self.new.book) }
-        ensures stays { B.good self.old.book → B.good self.new.book }
-        ensures rank { self.new.rank ≡ self.old.rank }
-        ensures refusal { self.new.refusal ≡ self.old.refusal }
+        ensures { Told B.good B.ledger R.goes (Refund member amount) self.old (answer_of result) self.new }
     {
-        if let Some(fault) = self.refusal {
-            return Err(fault);
-        }
-        accounts::refund(&mut self.book, &self.figures, member, amount)
+        let figures = opened(&self.state)?;
+        accounts::refund(&mut self.book, figures, member, amount)
     }
 
     // A trade of today, netted into the lines of both sides.
     pub fn novate(&mut self, trade: Trade) -> Result<(), HouseFault>
-        ensures handled { B.good self.old.book → AnsweredBy self.old.refusal (R.goes self.old.rank) (Novate trade) self.old.figures (B.ledger self.old.book) (answer_of result) self.new.figures (B.ledger self.new.book) }
-        ensures stays { B.good self.old.book → B.good self.new.book }
-        ensures rank { self.new.rank ≡ self.old.rank }
-        ensures refusal { self.new.refusal ≡ self.old.refusal }
+        ensures { Told B.good B.ledger R.goes (Novate trade) self.old (answer_of result) self.new }
     {
-        if let Some(fault) = self.refusal {
-            return Err(fault);
-        }
-        netting::novate(&mut self.figures, trade)
+        let figures = match &mut self.state {
+            Ok(figures) => figures,
+            Err(fault) => return Err(*fault),
+        };
+        netting::novate(figures, trade)
     }
 
     // The closing price of a security.
     pub fn price(&mut self, security: u8, price: u32) -> Result<(), HouseFault>
-        ensures handled { B.good self.old.book → AnsweredBy self.old.refusal (R.goes self.old.rank) (Price security price) self.old.figures (B.ledger self.old.book) (answer_of result) self.new.figures (B.ledger self.new.book) }
-        ensures stays { B.good self.old.book → B.good self.new.book }
-        ensures rank { self.new.rank ≡ self.old.rank }
-        ensures refusal { self.new.refusal ≡ self.old.refusal }
+        ensures { Told B.good B.ledger R.goes (Price security price) self.old (answer_of result) self.new }
     {
-        if let Some(fault) = self.refusal {
-            return Err(fault);
-        }
-        set_close(&mut self.figures, security, price)
+        let figures = match &mut self.state {
+            Ok(figures) => figures,
+            Err(fault) => return Err(*fault),
+        };
+        set_close(figures, security, price)
     }
 }

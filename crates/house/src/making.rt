@@ -1,9 +1,10 @@
 // The figures of a house as it is opened.
-ghost use Rattle.std.specs.Prelude.{◌≡◌};
-ghost use Rattle.rules.specs.State.{no_member, opened_figures, with_register};
+ghost use Rattle.std.specs.Prelude.{◌≡◌, false};
+ghost use Rattle.rules.specs.State.{no_member, opened_figures};
+ghost use Rattle.house.specs.Opened.{bad_counts};
 
 use register::Register;
-use rules::figures::{Clock, Fail, Figures, MEMBERS, Member, Phase, Row, SECURITIES, Size};
+use rules::figures::{Clock, Fail, Figures, MEMBERS, Member, Phase, Row, SECURITIES, Seat, Size};
 
 fn no_member() -> Member
     ensures { result ≡ no_member }
@@ -24,10 +25,17 @@ fn no_member() -> Member
     }
 }
 
-// The morning of day 1 over a register, all else empty or 0.
-fn figures_over(register: Register, members: u8, securities: u8) -> Figures
-    ensures { result ≡ with_register (opened_figures members securities) register }
+// The morning of day 1, without lines, all else empty or 0.
+pub(crate) fn new_figures(members: u8, securities: u8) -> Figures
+    requires { bad_counts members securities ≡ false }
+    ensures { result ≡ opened_figures members securities }
 {
+    let seat = Seat {
+        member: no_member(),
+        escrow: Row {
+            shares: [0; SECURITIES],
+        },
+    };
     Figures {
         size: Size {
             members,
@@ -37,19 +45,9 @@ fn figures_over(register: Register, members: u8, securities: u8) -> Figures
             day: 1,
             phase: Phase::Morning,
         },
-        register,
-        records: [no_member(); MEMBERS],
-        escrow: [Row {
-            shares: [0; SECURITIES],
-        }; MEMBERS],
+        register: Register::empty(),
+        seats: [seat; MEMBERS],
         closes: [0; SECURITIES],
         fails: 0,
     }
-}
-
-// The morning of day 1, without lines.
-pub(crate) fn new_figures(members: u8, securities: u8) -> Figures
-    ensures { result ≡ opened_figures members securities }
-{
-    figures_over(Register::empty(), members, securities)
 }

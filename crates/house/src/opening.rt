@@ -1,10 +1,10 @@
 // How a house is opened and closed.
-ghost use Rattle.std.specs.Prelude.{◌≡◌, ◌<◌, ◌≤◌, false, None, ◌==◌};
+ghost use Rattle.std.specs.Prelude.{◌≡◌, ◌≤◌, ◌==◌};
 ghost use Rattle.book.specs.Ledger.{sum_to};
 ghost use Rattle.rules.specs.Events.{book_sum, open_answer, suits};
-ghost use Rattle.rules.specs.Fit.{Fit};
 ghost use Rattle.rules.specs.Limits.{most_members, most_securities};
-ghost use Rattle.house.specs.Opened.{OpenedBy, answer_told, bad_counts, first_figures};
+ghost use Rattle.house.specs.Seen.{refusal_in, figures_in};
+ghost use Rattle.house.specs.Opened.{OpenedBy, bad_counts};
 
 use crate::house::House;
 use crate::making::new_figures;
@@ -57,44 +57,17 @@ fn suits<B: Book>(book: &B, members: u8, securities: u8) -> bool
     book.accounts() == 3 * members + 3 && book.assets() == securities + 1 && is_empty(book)
 }
 
-// Why a house of these counts cannot be opened over a book, if it cannot.
-fn refusal_to_open<B: Book>(book: &B, members: u8, securities: u8) -> Option<HouseFault>
-    ensures answer { B.good book.now → answer_told result ≡ open_answer (B.ledger book.now) members securities }
-    ensures counts { result ≡ None → bad_counts members securities ≡ false }
+// The figures of a house of these counts over a book, or why it is refused.
+fn begin<B: Book>(book: &B, members: u8, securities: u8) -> Result<Figures, HouseFault>
+    ensures { B.good book.now → OpenedBy (B.ledger book.now) members securities (refusal_in result) (figures_in result) }
 {
     if bad_counts(members, securities) {
-        return Some(HouseFault::BadCounts);
+        return Err(HouseFault::BadCounts);
     }
     if !suits(book, members, securities) {
-        return Some(HouseFault::UnfitBook);
+        return Err(HouseFault::UnfitBook);
     }
-    None
-}
-
-// The figures that a house has at first: one that is refused has the least.
-fn first_figures(refusal: Option<HouseFault>, members: u8, securities: u8) -> Figures
-    ensures { result ≡ first_figures refusal members securities }
-{
-    match refusal {
-        None => new_figures(members, securities),
-        Some(_) => new_figures(1, 1),
-    }
-}
-
-// How a house begins.
-struct Beginning {
-    refusal: Option<HouseFault>,
-    figures: Figures,
-}
-
-// Whether a house of these counts is refused over a book, and its figures.
-fn begin<B: Book>(book: &B, members: u8, securities: u8) -> Beginning
-    ensures opened { B.good book.now → OpenedBy (B.ledger book.now) members securities result.refusal result.figures }
-    ensures fit { Fit result.figures }
-{
-    let refusal = refusal_to_open(book, members, securities);
-    let figures = first_figures(refusal, members, securities);
-    Beginning { refusal, figures }
+    Ok(new_figures(members, securities))
 }
 
 impl<B: Book, R: Rank> House<B, R> {
@@ -105,20 +78,15 @@ impl<B: Book, R: Rank> House<B, R> {
         ensures book { result.book ≡ book }
         ensures rank { result.rank ≡ rank }
     {
-        let Beginning { refusal, figures } = begin(&book, members, securities);
-        House {
-            book,
-            rank,
-            refusal,
-            figures,
-        }
+        let state = begin(&book, members, securities);
+        House { book, rank, state }
     }
 
     // Why the house was refused at its opening, if it was.
     pub fn refusal(&self) -> Option<HouseFault>
         ensures { result ≡ self.now.refusal }
     {
-        self.refusal
+        self.state.as_ref().err().copied()
     }
 
     // Hands the book and the rank back, of any house.
@@ -129,8 +97,7 @@ impl<B: Book, R: Rank> House<B, R> {
         let House {
             book,
             rank,
-            refusal: _,
-            figures: _,
+            state: _,
         } = self;
         (book, rank)
     }

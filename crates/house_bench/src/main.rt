@@ -39,37 +39,20 @@ fn fill(house: &mut House<Table, Annex>, trades: u32) -> u32 {
     accepted
 }
 
-#[derive(Clone, Copy)]
-enum Kind {
-    Bring,
-    Pledge,
-    Novate,
+// The member whose turn it is.
+fn member_at(turn: u32) -> u8 {
+    (turn % 24 + 1) as u8
 }
 
-// Tells the house of one event. Members take turns; a trade meets the two lines that were opened last.
-fn tell(
-    house: &mut House<Table, Annex>,
-    kind: Kind,
-    turn: u32,
-    last: u32,
-) -> Result<(), HouseFault> {
-    let member = (turn % 24 + 1) as u8;
-    match kind {
-        Kind::Bring => house.bring(member, 0, 1),
-        Kind::Pledge => house.pledge(member, 1),
-        Kind::Novate => {
-            let mut trade = opening_trade(last);
-            trade.quantity = 1;
-            house.novate(trade)
-        }
-    }
-}
-
-// Tells the house of one kind of event again and again, and counts how often it is accepted.
-fn repeat(house: &mut House<Table, Annex>, kind: Kind, last: u32) -> u32 {
+// Tells the house of one event again and again, and counts how often it is accepted.
+fn repeat<F>(house: &mut House<Table, Annex>, tell: F) -> u32
+where
+    F: Fn(&mut House<Table, Annex>, u32) -> Result<(), HouseFault>,
+    requires { F.IsAlwaysCallable tell }
+{
     let mut accepted: u32 = 0;
     for turn in 0..TIMES {
-        if tell(house, kind, turn, last).is_ok() {
+        if tell(house, turn).is_ok() {
             accepted = accepted.saturating_add(1);
         }
     }
@@ -82,34 +65,41 @@ fn each(took: Duration) -> u128 {
 }
 
 // Times one kind of event, and says how it went.
-fn time(
+fn time<F>(
     rt: &HostRuntime,
     house: &mut House<Table, Annex>,
-    kind: Kind,
-    last: u32,
-) -> anyhow::Result<()> {
-    let name = match kind {
-        Kind::Bring => "bring",
-        Kind::Pledge => "pledge",
-        Kind::Novate => "novate",
-    };
+    name: &str,
+    tell: F,
+) -> anyhow::Result<()>
+where
+    F: Fn(&mut House<Table, Annex>, u32) -> Result<(), HouseFault>,
+    requires { F.IsAlwaysCallable tell }
+{
     let start = Instant::now(rt)?;
-    let accepted = repeat(house, kind, last);
+    let accepted = repeat(house, tell);
     let took = start.elapsed(rt)?;
     println!(rt; "  {name}: {accepted} of {TIMES} accepted")?;
     eprintln!(rt; "  {name}: {} ns each", each(took))?;
     Ok(())
 }
 
-// Times the three events in a house with so many lines, two for each trade.
+// Times the three events in a house with so many lines, two for each trade. Members take turns; a trade meets the two lines
+// that were opened last.
 fn time_all(rt: &HostRuntime, house: &mut House<Table, Annex>, trades: u32) -> anyhow::Result<()> {
     let opened = fill(house, trades);
     println!(rt; "{opened} trades, two lines each")?;
     eprintln!(rt; "{opened} trades, two lines each")?;
-    let last = trades.saturating_sub(1);
-    time(rt, house, Kind::Bring, last)?;
-    time(rt, house, Kind::Pledge, last)?;
-    time(rt, house, Kind::Novate, last)
+    let last = Trade {
+        quantity: 1,
+        ..opening_trade(trades.saturating_sub(1))
+    };
+    time(rt, house, "bring", |house, turn| {
+        house.bring(member_at(turn), 0, 1)
+    })?;
+    time(rt, house, "pledge", |house, turn| {
+        house.pledge(member_at(turn), 1)
+    })?;
+    time(rt, house, "novate", |house, _| house.novate(last))
 }
 
 // Opens a house over an empty table, and times it.

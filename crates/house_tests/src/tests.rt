@@ -1,5 +1,6 @@
 use crate::full::Full;
 use book::counts::Counts;
+use desk::accounts::{CASH, Own, Purse};
 use house::house::House;
 use rank::annex::Annex;
 use rank::key::{Flag, Key};
@@ -15,18 +16,12 @@ const RANK: Annex = Annex { seed: 0 };
 
 // The number of an answer, 0 where the call was accepted.
 fn number<T: Drop>(answer: Result<T, HouseFault>) -> u64 {
-    match answer {
-        Ok(_) => 0,
-        Err(fault) => u64::from(fault.number()),
-    }
+    answer.err().map_or(0, |fault| u64::from(fault.number()))
 }
 
 // What a question told, 0 where it was refused.
 fn told(answer: Result<u64, HouseFault>) -> u64 {
-    match answer {
-        Ok(value) => value,
-        Err(_) => 0,
-    }
+    answer.unwrap_or(0)
 }
 
 // A house of two members and one security.
@@ -56,22 +51,18 @@ fn has(
     price: u32,
     rest: u32,
 ) -> bool {
-    match answer {
-        Ok(Some(line)) => line.claim.key.number() == key.number()
+    answer.ok().flatten().is_some_and(|line| {
+        line.claim.key == key
             && line.claim.quantity == quantity
             && line.money == money
             && line.claim.price == price
-            && line.rest == rest,
-        _ => false,
-    }
+            && line.rest == rest
+    })
 }
 
 // Whether it was told that there is no such line.
 fn is_none(answer: Result<Option<Line>, HouseFault>) -> bool {
-    match answer {
-        Ok(line) => line.is_none(),
-        Err(_) => false,
-    }
+    matches!(answer, Ok(None))
 }
 
 fn key(member: u8, flag: Flag) -> Key {
@@ -110,10 +101,7 @@ fn is_let_go(rt: HostRuntime) -> Result<(), Fail> {
     let mut held = Held { house: None };
     held.house = Some(small()?);
     held.house = Some(House::open(Table::new(Counts::new(9, 2)?), RANK, 1, 1));
-    let unfit = match &held.house {
-        Some(house) => number(house.day()),
-        None => 0,
-    };
+    let unfit = held.house.as_ref().map_or(0, |house| number(house.day()));
     held.house = None;
     assert_eq!(rt; unfit, 18);
     Ok(())
@@ -137,8 +125,8 @@ fn cash_from_and_to_outside(rt: HostRuntime) -> Result<(), Fail> {
         number(house.endow(0)),
         number(house.endow(MOST)),
         number(house.endow(50)),
-        told(house.settlement(1, 0)),
-        told(house.reserve(0)),
+        told(house.balance(1, Purse::Settlement, 0)),
+        told(house.own_balance(Own::Reserve, 0)),
     ];
     assert_eq!(rt; answers, [1, 2, 4, 0, 8, 1, 2, 4, 7, 0, 4, 8, 0, 90, 50]);
     Ok(())
@@ -161,9 +149,9 @@ fn cash_among_accounts(rt: HostRuntime) -> Result<(), Fail> {
         number(house.refund(2, 0)),
         number(house.refund(2, 61)),
         number(house.refund(2, 10)),
-        told(house.settlement(2, 0)),
-        told(house.collateral(2)),
-        told(house.contribution(2)),
+        told(house.balance(2, Purse::Settlement, 0)),
+        told(house.balance(2, Purse::Collateral, CASH)),
+        told(house.balance(2, Purse::Contribution, CASH)),
     ];
     assert_eq!(rt;
         answers,
@@ -193,17 +181,17 @@ fn questions_and_prices(rt: HostRuntime) -> Result<(), Fail> {
         number(house.member(0)),
         number(house.owed(3)),
         number(house.call(3)),
-        number(house.collateral(3)),
-        number(house.contribution(3)),
-        number(house.settlement(3, 2)),
+        number(house.balance(3, Purse::Collateral, CASH)),
+        number(house.balance(3, Purse::Contribution, CASH)),
+        number(house.balance(3, Purse::Settlement, 2)),
         number(house.in_escrow(3, 2)),
         number(house.line(4, 2, 3, 4)),
-        number(house.settlement(1, 2)),
+        number(house.balance(1, Purse::Settlement, 2)),
         number(house.in_escrow(1, 0)),
         number(house.closing_price(2)),
-        number(house.pool(2)),
-        number(house.escrow(2)),
-        number(house.reserve(2)),
+        number(house.own_balance(Own::Pool, 2)),
+        number(house.own_balance(Own::Escrow, 2)),
+        number(house.own_balance(Own::Reserve, 2)),
         number(house.line(4, 2, 1, 4)),
         number(house.line(4, 1, 1, 4)),
         number(house.price(2, 0)),

@@ -1,3 +1,4 @@
 pub mod Members
 pub mod Sorting
 pub mod Lines
+pub mod Kept

@@ -1,7 +1,8 @@
 -- A line's key and the number that stands for it.
-use Rattle.std.specs.Prelude.{◌≡◌, ℕ, ◌+◌, ◌*◌, ◌%◌, ◌<◌, Some, None, Option, ◌≢◌}
+use Rattle.std.specs.Prelude.{◌≡◌, ℕ, ◌+◌, ◌*◌, ◌%◌, ◌<◌, List, Ok, Err, Result, codes, ◌≢◌}
 use Rattle.rank.specs.declared.key.Flag.{Flag}
 use Rattle.rank.specs.declared.key.Flag.TheVariants.{LocalPrincipal, LocalClient, ForeignPrincipal, ForeignClient}
+use Rattle.rank.specs.declared.key.NoFlag.{NoFlag}
 use Rattle.rank.specs.declared.key.Key.{Key}
 
 abbrev pub flag_number : Flag → ℕ
@@ -10,10 +11,22 @@ flag_number LocalClient = 1
 flag_number ForeignPrincipal = 2
 flag_number ForeignClient = 3
 
+-- Local or foreign, then principal or client.
+abbrev pub flag_letters : Flag → List ℕ
+flag_letters LocalPrincipal = codes "LP"
+flag_letters LocalClient = codes "LC"
+flag_letters ForeignPrincipal = codes "FP"
+flag_letters ForeignClient = codes "FC"
+
 -- The flag that has a number, or none where no flag has it.
-abbrev pub FlagNumbered : ℕ → Option Flag → Type 0
-FlagNumbered n (Some f) = flag_number f ≡ n
-FlagNumbered n None = (f : Flag) → flag_number f ≢ n
+abbrev pub FlagNumbered : ℕ → Result Flag NoFlag → Type 0
+FlagNumbered n (Ok f) = flag_number f ≡ n
+FlagNumbered n (Err _) = (f : Flag) → flag_number f ≢ n
+
+-- The flag that has the letters, or none where no flag has them.
+abbrev pub FlagLettered : List ℕ → Result Flag NoFlag → Type 0
+FlagLettered bs (Ok f) = flag_letters f ≡ bs
+FlagLettered bs (Err _) = (f : Flag) → flag_letters f ≢ bs
 
 abbrev pub key_number : Key → ℕ
 key_number k = ((k.due * 64 + k.security) * 64 + k.member) * 4 + flag_number k.flag

@@ -19,6 +19,7 @@ impl Annex {
     pub fn draw(&self, key: Key) -> u32
         ensures { result ≡ draw_of self.now.seed key }
     {
+        // A u32 that wraps gives the same, but the key's number would have to lose its high bits first.
         let seeded = u128::from(key.number()) + u128::from(self.seed);
         (seeded * 2_654_435_761 % 4_294_967_296) as u32
     }
@@ -30,16 +31,14 @@ impl Rank for Annex {
     ghost lawful = { λ r _. annex_lawful r.seed };
 
     fn before(&self, _settlement: u32, a: &Claim, b: &Claim) -> bool {
-        if a.price != b.price {
-            return if a.receives() {
-                a.price > b.price
-            } else {
-                a.price < b.price
-            };
-        }
-        if a.size() != b.size() {
-            return a.size() < b.size();
-        }
-        self.draw(a.key) < self.draw(b.key)
+        let by_price = if a.receives() {
+            b.price.cmp(&a.price)
+        } else {
+            a.price.cmp(&b.price)
+        };
+        by_price
+            .then_with(|| a.size().cmp(&b.size()))
+            .then_with(|| self.draw(a.key).cmp(&self.draw(b.key)))
+            .is_lt()
     }
 }

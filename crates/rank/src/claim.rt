@@ -4,7 +4,7 @@ ghost use Rattle.rank.specs.Claims.{is_delivering, is_receiving, size_of};
 use crate::key::Key;
 
 /// What a rank may read of a line.
-#[derive(Clone, Copy)]
+#[derive(Clone, Copy, Debug, PartialEq, Eq)]
 pub struct Claim {
     pub key: Key,
     /// The netted quantity, shares sold less shares bought: above 0 the line delivers, below 0 it receives.

@@ -1,3 +1,4 @@
+ghost use Rattle.std.specs.Prelude.{◌≡◌, if◌then◌else◌};
 ghost use Rattle.rank.specs.Order.{Found};
 
 use crate::Rank;
@@ -8,14 +9,20 @@ use crate::claim::Claim;
 pub fn first_of<R: Rank>(rank: &R, settlement: u32, lines: &[Claim]) -> Option<usize>
     ensures { Found (R.Rank.goes rank.now settlement) lines.now result }
 {
-    if lines.is_empty() {
-        return None;
-    }
-    let mut best = 0;
-    for i in 1..lines.len() {
-        if rank.before(settlement, &lines[i], &lines[best]) {
-            best = i;
-        }
-    }
-    Some(best)
+    lines
+        .iter()
+        .enumerate()
+        .reduce(
+            |best, next|
+                ensures { result ≡ if R.Rank.goes rank.entry.now settlement next.entry.1.now best.entry.1.now
+                    then next.entry else best.entry }
+            {
+                if rank.before(settlement, next.1, best.1) {
+                    next
+                } else {
+                    best
+                }
+            },
+        )
+        .map(|(place, _)| place)
 }

@@ -16,10 +16,8 @@ impl Rank for Former {
     fn before(&self, settlement: u32, a: &Claim, b: &Claim) -> bool {
         let x = u128::from(a.size()) * u128::from(settlement);
         let y = u128::from(b.size()) * u128::from(settlement);
-        if x == y {
-            a.key.number() < b.key.number()
-        } else {
-            x > y
-        }
+        y.cmp(&x)
+            .then_with(|| a.key.number().cmp(&b.key.number()))
+            .is_lt()
     }
 }

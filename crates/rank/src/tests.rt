@@ -3,7 +3,8 @@ use crate::annex::Annex;
 use crate::claim::Claim;
 use crate::first::first_of;
 use crate::former::Former;
-use crate::key::{Flag, Key};
+use crate::key::{Flag, Key, NoFlag};
+use std::fmt::InlineText;
 
 /// A line of due day 4 and security 1.
 fn line(member: u8, flag: Flag, quantity: i64, price: u32) -> Claim {
@@ -22,9 +23,17 @@ fn keys_and_flags(rt: HostRuntime) {
             && largest.number() == 70_368_744_227_583
     );
     assert!(rt;
-        matches!(Flag::from_number(2), Some(Flag::ForeignPrincipal))
-            && Flag::from_number(4).is_none()
+        Flag::try_from(2u8) == Ok(Flag::ForeignPrincipal) && u8::from(Flag::ForeignPrincipal) == 2
     );
+    assert!(rt; Flag::try_from(4u8) == Err(NoFlag));
+}
+
+#[test]
+fn letters(rt: HostRuntime) {
+    assert!(rt; Flag::LocalPrincipal.letters() == "LP");
+    assert!(rt; InlineText::<2>::of(Flag::LocalClient).as_str() == "LC");
+    assert!(rt; Flag::try_from(b"FC".as_slice()) == Ok(Flag::ForeignClient));
+    assert!(rt; Flag::try_from(b"FL".as_slice()) == Err(NoFlag));
 }
 
 #[test]
@@ -44,12 +53,9 @@ fn draws(rt: HostRuntime) {
 
 /// Whether each line goes before the next.
 fn in_order<R: Rank>(rank: &R, settlement: u32, lines: &[Claim]) -> bool {
-    for i in 1..lines.len() {
-        if !rank.before(settlement, &lines[i - 1], &lines[i]) {
-            return false;
-        }
-    }
-    true
+    lines
+        .windows(2)
+        .all(|pair| rank.before(settlement, &pair[0], &pair[1]))
 }
 
 #[test]

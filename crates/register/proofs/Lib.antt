@@ -1,3 +1,5 @@
+mod Tables
 pub mod KeyPlaces
 pub mod Trades
-pub mod Packing
+mod Listed
+mod Flags

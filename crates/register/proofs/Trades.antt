@@ -12,7 +12,8 @@ use Rattle.register.specs.Limits.{most_quantity, most_price, most_money, registe
 use Rattle.register.specs.Lines.{line, blank}
 use Rattle.register.specs.Netting.{same_key, place_of, known, line_of, bought, sold, filed, buyer_key, seller_key, buyer_filed, trade_filed, too_large, trade_too_large}
 use Rattle.register.specs.Sides.{sides_netted, one_unless, new_lines}
-use Rattle.register.specs.Fits.{Tabled, Sized, AllSized, Kept, Judged, Nettable, Room}
+use Rattle.register.specs.Fits.{Sized, AllSized, Nettable, Room}
+use Rattle.register.proofs.Tables.{Tabled}
 use Rattle.register.proofs.KeyPlaces.{at_filed, place_own, same_keys, same_key_self, place_most, key_line_of, count_filed, place_filed, known_filed, line_of_filed}
 
 -- A sum that one trade lowers.
@@ -167,28 +168,25 @@ module _ (g : Register) (due : ℕ) (t : Trade) where
             ap (λ b. (sides_netted b (line_of g kb) (line_of g ks) t).buyer) e
             ∙ sym (line_both kb ∙ (cond-false _ _ _ (other_way kb ks e) ∙ (line_half kb ∙ cond-true _ _ _ (same_key_self kb))))
 
-    module _ (sized : AllSized g) (judged : Judged t) where
+    module _ (sized : AllSized g) (fewer : t.quantity ≤ most_quantity) (cheaper : t.price ≤ most_price) where
       pub buyer_nettable : Nettable g kb
-      buyer_nettable = record { table = table; place = buyer_place; sized = sized_more _ (sized_line_of g kb sized) }
+      buyer_nettable = record { place = buyer_place; sized = sized_more _ (sized_line_of g kb sized) }
 
       pub seller_nettable : Nettable half ks
       seller_nettable = record {
-        table = half_table;
         place = seller_place;
         sized = subst (Sized 2) (sym (line_half ks))
             (cond_both (same_key kb ks) lb (line_of g ks) (Sized 2)
-            (λ e. sized_bought (line_of g kb) t.quantity t.price (sized_line_of g kb sized) judged.quantity judged.price)
+            (λ e. sized_bought (line_of g kb) t.quantity t.price (sized_line_of g kb sized) fewer cheaper)
             (λ e. sized_more _ (sized_line_of g ks sized)));
       }
 
-    -- What the house keeps of its register it keeps over a trade that passes no limit.
-    pub trade_kept : AllSized g → trade_too_large g due t ≡ false → Kept (trade_filed g due t)
-    trade_kept sized small = record {
-      table = record { places = length-set half.lines (place_of half ks) ls ∙ half_table.places; few = room };
-      lines = λ i h. at_filed half ks ls (key_line_of half ks) long_s (Sized 1) i h
-          (λ e. seller_sized)
-          (λ d b. at_filed g kb lb (key_line_of g kb) long_b (Sized 1) i b (λ e. buyer_sized i e d) (λ _ c. sized i c));
-    }
+    -- The lines stay within their limits over a trade that passes none.
+    pub trade_sized : AllSized g → trade_too_large g due t ≡ false → AllSized (trade_filed g due t)
+    trade_sized sized small i h =
+        at_filed half ks ls (key_line_of half ks) long_s (Sized 1) i h
+        (λ e. seller_sized)
+        (λ d b. at_filed g kb lb (key_line_of g kb) long_b (Sized 1) i b (λ e. buyer_sized i e d) (λ _ c. sized i c))
       where
         within : (too_large (line_of (trade_filed g due t) kb) ≡ false) × (too_large (line_of (trade_filed g due t) ks) ≡ false)
         within = or_parts (too_large (line_of (trade_filed g due t) kb)) (too_large (line_of (trade_filed g due t) ks)) small

@@ -1,17 +1,12 @@
--- What the register's code leans on. The house keeps it of its register in every state, and judges a trade before it is netted.
-use Rattle.std.specs.Prelude.{◌≡◌, ℕ, ◌*◌, ◌<◌, ◌≤◌, length, unsigned_abs}
+-- What the netting of a trade leans on: sums that stay within their types, and a place for each line.
+use Rattle.std.specs.Prelude.{ℕ, ◌*◌, ◌<◌, ◌≤◌, unsigned_abs}
 use Rattle.rank.specs.declared.key.Key.{Key}
 use Rattle.register.specs.declared.line.Line.{Line}
 use Rattle.register.specs.declared.trade.Trade.{Trade}
 use Rattle.register.specs.declared.Register.{Register}
-use Rattle.register.specs.Limits.{most_quantity, most_money, most_price, register_places}
+use Rattle.register.specs.Limits.{most_quantity, most_money, register_places}
 use Rattle.register.specs.Lines.{line}
 use Rattle.register.specs.Netting.{place_of, line_of, trade_filed}
-
--- All places are there, and no more lines than places: every place of a line can be read and written.
-pub record Tabled (g : Register) : Type 0 where
-  pub places : length g.lines ≡ register_places
-  pub few : g.count ≤ register_places
 
 -- The netted quantity and money of a line are at most so many times their limits: one more side of a trade stays within 64 bits.
 pub record Sized (n : ℕ) (l : Line) : Type 0 where
@@ -22,19 +17,8 @@ pub record Sized (n : ℕ) (l : Line) : Type 0 where
 abbrev pub AllSized : Register → Type 0
 AllSized g = (i : ℕ) → i < g.count → Sized 1 (line g i)
 
--- What the house keeps of its register in every state.
-pub record Kept (g : Register) : Type 0 where
-  pub table : Tabled g
-  pub lines : AllSized g
-
--- The quantity and the price of a trade have been judged.
-pub record Judged (t : Trade) : Type 0 where
-  pub quantity : t.quantity ≤ most_quantity
-  pub price : t.price ≤ most_price
-
 -- One side of a trade can be netted into the line of a key: it has a place, and its sums stay within their type.
 pub record Nettable (g : Register) (k : Key) : Type 0 where
-  pub table : Tabled g
   pub place : place_of g k < register_places
   pub sized : Sized 2 (line_of g k)
 

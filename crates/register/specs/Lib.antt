@@ -1,7 +1,9 @@
 pub mod Limits
+pub mod Places
 pub mod Lines
 pub mod Netting
 pub mod Sides
 pub mod Dropping
 pub mod Asking
 pub mod Fits
+pub mod Nearest

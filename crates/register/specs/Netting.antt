@@ -5,6 +5,8 @@ use Rattle.rank.specs.declared.key.Flag.TheVariants.{LocalPrincipal, LocalClient
 use Rattle.rank.specs.declared.key.Key.{Key}
 use Rattle.rank.specs.Keys.{flag_number}
 use Rattle.register.specs.declared.trade.Trade.{Trade}
+use Rattle.register.specs.declared.trade.Side.{Side}
+use Rattle.register.specs.declared.trade.Side.TheVariants.{Buyer, Seller}
 use Rattle.register.specs.declared.line.Line.{Line}
 use Rattle.register.specs.declared.Register.{Register}
 use Rattle.register.specs.Limits.{most_quantity, most_money, days_to_due}
@@ -61,6 +63,11 @@ netted l quantity money highest lowest = record {
   delivered = 0;
 }
 
+-- A sum that a purchase lowers and a sale raises.
+abbrev pub moved : Side → ℤ → ℤ → ℤ
+moved Buyer z n = z +ℤ neg_ℤ n
+moved Seller z n = z +ℤ n
+
 -- A line with q shares bought, or sold, at the price p.
 abbrev pub bought : Line → ℕ → ℕ → Line
 bought l q p =
@@ -69,6 +76,11 @@ bought l q p =
 abbrev pub sold : Line → ℕ → ℕ → Line
 sold l q p =
     netted l (l.claim.quantity +ℤ pos q) (l.money +ℤ pos (q * p)) l.highest (lower_sale l.lowest p)
+
+-- A line after one side of a trade.
+abbrev pub traded : Side → Line → ℕ → ℕ → Line
+traded Buyer = bought
+traded Seller = sold
 
 -- The register with a line in the place of its key, or in a new place behind the others.
 abbrev pub filed : Register → Key → Line → Register
@@ -82,6 +94,10 @@ buyer_key due t = record { due = due; security = t.security; member = t.buyer; f
 
 abbrev pub seller_key : ℕ → Trade → Key
 seller_key due t = record { due = due; security = t.security; member = t.seller; flag = flag_of t.seller_flag }
+
+abbrev pub key_of : Side → ℕ → Trade → Key
+key_of Buyer = buyer_key
+key_of Seller = seller_key
 
 -- Both sides of a trade that falls due on a day: the buyer's line, then the seller's, which may be the same.
 abbrev pub buyer_filed : Register → ℕ → Trade → Register

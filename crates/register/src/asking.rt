@@ -1,83 +1,76 @@
 // Lines asked for by key, and listed by rising key.
-ghost use Rattle.std.specs.Prelude.{◌≡◌, ◌<◌};
-ghost use Rattle.register.specs.Limits.{register_places};
-ghost use Rattle.register.specs.Netting.{line_of};
-ghost use Rattle.register.specs.Asking.{line_asked_at, line_asked, line_from, smallest_from, smaller_from};
-ghost use Rattle.register.specs.Fits.{Tabled};
+ghost use Rattle.std.specs.Prelude.{◌≡◌, if◌then◌else◌, Some, None, position};
+ghost use Rattle.register.specs.Netting.{same_key, known, line_of, place_of};
+ghost use Rattle.register.specs.Asking.{line_asked, line_from};
+ghost use Rattle.register.specs.Nearest.{nearer, nearest};
 
 use crate::Register;
 use crate::line::Line;
 use rank::key::Key;
 
+// The place of the first line that has a key.
+fn position_of(lines: &[Line], key: Key) -> Option<usize>
+    ensures { result ≡ position (λ l. same_key l.claim.key key) lines.now }
+{
+    lines.iter().position(|line| line.claim.key == key)
+}
+
+// The nearer of two lines whose keys have a number from a number on: the one with the smaller number, and of two with the
+// same the first. The first may be none.
+fn nearer(number: u64, best: Option<Line>, line: &Line) -> Option<Line>
+    ensures { result ≡ nearer number best line.now }
+{
+    let here = line.claim.key.number();
+    match best {
+        Some(best) if here < number || best.claim.key.number() <= here => Some(best),
+        None if here < number => None,
+        _ => Some(*line),
+    }
+}
+
+// Of some lines, the nearest whose key has a number from a number on.
+fn nearest(lines: &[Line], number: u64) -> Option<Line>
+    ensures { result ≡ nearest number lines.now }
+{
+    lines
+        .iter()
+        .fold(None, |best, line| nearer(number, best, line))
+}
+
 impl Register {
-    // The line at a place; none behind the last line.
-    fn at(&self, place: usize) -> Option<Line>
-        requires { Tabled self.now }
-        ensures { result ≡ line_asked_at self.now place }
+    // The place of the line that has the key, if there is one.
+    pub fn place(&self, key: Key) -> Option<usize>
+        ensures { result ≡ (if known self.now key then Some (place_of self.now key) else None) }
     {
-        if place < self.count {
-            Some(self.lines[place])
-        } else {
-            None
-        }
+        position_of(&self.lines, key)
+    }
+
+    // Whether a line has the key.
+    pub fn knows(&self, key: Key) -> bool
+        ensures { result ≡ known self.now key }
+    {
+        self.place(key).is_some()
     }
 
     // The line that has the key; an unknown line is none.
     pub fn find(&self, key: Key) -> Option<Line>
-        requires { Tabled self.now }
         ensures { result ≡ line_asked self.now key }
     {
-        self.at(self.place(key))
+        self.place(key).map(|place| self.lines[place])
     }
 
     // The line that has the key; of an unknown key a line without any trade.
     pub fn line_or_blank(&self, key: Key) -> Line
-        requires { Tabled self.now }
         ensures { result ≡ line_of self.now key }
     {
-        let place = self.place(key);
-        if place < self.count {
-            self.lines[place]
-        } else {
-            Line::blank(key)
-        }
-    }
-
-    // The place with the smallest number from a number on, of those below a place and that place; `best` is the one below,
-    // or the place itself where there is none.
-    fn smaller_from(&self, number: u64, best: usize, place: usize) -> usize
-        requires table { Tabled self.now }
-        requires place { place < register_places }
-        ensures { result ≡ smaller_from self.now number best place }
-    {
-        let here = self.lines[place].claim.key.number();
-        if here >= number && (best >= place || here < self.lines[best].claim.key.number()) {
-            place
-        } else if best < place {
-            best
-        } else {
-            place + 1
-        }
-    }
-
-    // The place of the line whose key has the smallest number from a number on; the count of lines where there is none.
-    fn smallest_from(&self, number: u64) -> usize
-        requires { Tabled self.now }
-        ensures { result ≡ smallest_from self.now number self.now.count }
-    {
-        let mut best = 0;
-        for i in 0..self.count {
-            best = self.smaller_from(number, best, i);
-        }
-        best
+        self.find(key).unwrap_or(Line::blank(key))
     }
 
     // The line whose key has the smallest number from a number on.
     // Asked again from the next number, it lists all lines by rising key.
     pub fn line_from(&self, number: u64) -> Option<Line>
-        requires { Tabled self.now }
         ensures { result ≡ line_from self.now number }
     {
-        self.at(self.smallest_from(number))
+        nearest(&self.lines, number)
     }
 }

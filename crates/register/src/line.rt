@@ -1,14 +1,15 @@
 // A line: what the register keeps, and one side of a trade netted into it.
-ghost use Rattle.std.specs.Prelude.{◌≡◌, ◌*◌, ◌≤◌, pos, ◌+ℤ◌, neg_ℤ, unsigned_abs};
-ghost use Rattle.register.specs.Limits.{most_quantity, most_price, most_money};
-ghost use Rattle.register.specs.Lines.{blank as blank_line};
-ghost use Rattle.register.specs.Netting.{order_price, lower_sale, netted as netted_line, bought as bought_line, sold as sold_line, too_large};
+ghost use Rattle.std.specs.Prelude.{◌≡◌, ◌*◌, ◌≤◌, unsigned_abs};
+ghost use Rattle.register.specs.Limits.{most_quantity, most_money};
+ghost use Rattle.register.specs.Lines.{blank as blank_line, no_line};
+ghost use Rattle.register.specs.Netting.{moved, order_price, lower_sale, netted as netted_line, traded as traded_line, too_large};
 ghost use Rattle.register.specs.Sides.{crossed as crossed_line};
 ghost use Rattle.register.specs.Dropping.{finished_by};
 ghost use Rattle.register.specs.Fits.{Sized};
 
+use crate::trade::{Deal, Side, Trade};
 use rank::claim::Claim;
-use rank::key::Key;
+use rank::key::{Flag, Key};
 
 // The shares of one trade, and of one line either way.
 pub const MOST_QUANTITY: u32 = 100_000_000;
@@ -60,32 +61,25 @@ fn lower_sale(lowest: u32, price: u32) -> u32
     }
 }
 
-// What so many shares cost at a price, within the limits of a trade.
-fn cost(quantity: u32, price: u32) -> u64
-    requires quantity { quantity ≤ most_quantity }
-    requires price { price ≤ most_price }
-    ensures value { result ≡ quantity * price }
-    ensures within { result ≤ most_money }
+// A sum of shares or money, lowered by what is bought or raised by what is sold.
+fn moved(side: Side, sum: i64, by: i64) -> i64
+    requires sum { unsigned_abs sum ≤ 2 * most_money }
+    requires by { unsigned_abs by ≤ most_money }
+    ensures { result ≡ moved side sum by }
 {
-    u64::from(quantity) * u64::from(price)
+    match side {
+        Side::Buyer => sum - by,
+        Side::Seller => sum + by,
+    }
 }
 
-// A sum of shares or money, raised by one trade.
-fn raised(sum: i64, by: u64) -> i64
-    requires sum { unsigned_abs sum ≤ 2 * most_money }
-    requires by { by ≤ most_money }
-    ensures { result ≡ sum +ℤ pos by }
-{
-    sum + by as i64
-}
+// What an empty place of a register holds.
+impl Default for Line {
+    ghost is_default = { λ l. l ≡ no_line };
 
-// A sum of shares or money, lowered by one trade.
-fn lowered(sum: i64, by: u64) -> i64
-    requires sum { unsigned_abs sum ≤ 2 * most_money }
-    requires by { by ≤ most_money }
-    ensures { result ≡ sum +ℤ neg_ℤ (pos by) }
-{
-    sum - by as i64
+    fn default() -> Line {
+        Line::blank(Key::new(0, 0, 0, Flag::LocalPrincipal))
+    }
 }
 
 impl Line {
@@ -125,38 +119,27 @@ impl Line {
         next
     }
 
-    // The line with so many shares bought at a price.
-    pub fn bought(self, quantity: u32, price: u32) -> Line
-        requires line { Sized 2 self }
-        requires quantity { quantity ≤ most_quantity }
-        requires price { price ≤ most_price }
-        ensures { result ≡ bought_line self quantity price }
+    // The line after one side of a trade.
+    pub fn traded(self, side: Side, deal: Deal) -> Line
+        requires { Sized 2 self }
+        ensures { result ≡ traded_line side self deal.trade.quantity deal.trade.price }
     {
-        let shares = lowered(self.claim.quantity, u64::from(quantity));
-        let money = lowered(self.money, cost(quantity, price));
-        self.netted(shares, money, self.highest.max(price), self.lowest)
+        let price = deal.trade.price;
+        let quantity = moved(side, self.claim.quantity, i64::from(deal.trade.quantity));
+        let money = moved(side, self.money, deal.cost());
+        let (highest, lowest) = match side {
+            Side::Buyer => (self.highest.max(price), self.lowest),
+            Side::Seller => (self.highest, lower_sale(self.lowest, price)),
+        };
+        self.netted(quantity, money, highest, lowest)
     }
 
-    // The line with so many shares sold at a price.
-    pub fn sold(self, quantity: u32, price: u32) -> Line
-        requires line { Sized 2 self }
-        requires quantity { quantity ≤ most_quantity }
-        requires price { price ≤ most_price }
-        ensures { result ≡ sold_line self quantity price }
+    // The line after both sides of a trade.
+    pub(crate) fn crossed(self, deal: Deal) -> Line
+        requires { Sized 1 self }
+        ensures { result ≡ crossed_line self deal.trade.quantity deal.trade.price }
     {
-        let shares = raised(self.claim.quantity, u64::from(quantity));
-        let money = raised(self.money, cost(quantity, price));
-        self.netted(shares, money, self.highest, lower_sale(self.lowest, price))
-    }
-
-    // The line with so many shares both bought and sold at a price.
-    pub(crate) fn crossed(self, quantity: u32, price: u32) -> Line
-        requires line { Sized 1 self }
-        requires quantity { quantity ≤ most_quantity }
-        requires price { price ≤ most_price }
-        ensures { result ≡ crossed_line self quantity price }
-    {
-        self.bought(quantity, price).sold(quantity, price)
+        self.traded(Side::Buyer, deal).traded(Side::Seller, deal)
     }
 
     // Whether the line has passed the limits of shares or money, either way.

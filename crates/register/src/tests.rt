@@ -1,7 +1,7 @@
-ghost use Rattle.register.specs.Fits.{Tabled, Kept};
+ghost use Rattle.register.specs.Fits.{AllSized};
 
 use crate::line::{Line, MOST_QUANTITY};
-use crate::trade::Trade;
+use crate::trade::{Deal, Trade};
 use crate::{PLACES, Register};
 use rank::key::{Flag, Key};
 use std::test::Fail;
@@ -24,45 +24,39 @@ fn key(due: u32, member: u8) -> Key {
 }
 
 fn empty() -> Register
-    ensures { Kept result }
+    ensures { AllSized result }
 {
     Register::empty()
 }
 
 // Nets a trade that has a place and passes no limit. Gives whether it did.
 fn traded(register: &mut Register, due: u32, trade: Trade) -> bool
-    requires { Kept register.old }
-    ensures { Kept register.new }
+    requires { AllSized register.old }
+    ensures { AllSized register.new }
 {
+    let _ = &register.lines;
     if trade.quantity > MOST_QUANTITY || trade.price > 1_000_000 {
         return false;
     }
     if register.lacks_place(due, trade) {
         return false;
     }
-    if register.trade_too_large(due, trade) {
+    let deal = Deal { due, trade };
+    if register.trade_too_large(deal) {
         return false;
     }
-    register.net(due, trade);
+    register.net(deal);
     true
-}
-
-fn drop_by(register: &mut Register, day: u32)
-    requires { Tabled register.old }
-    ensures { Tabled register.new }
-{
-    register.drop_finished(day);
 }
 
 // The figures of a line: quantity, money, order price and rest.
 fn has(line: Option<Line>, quantity: i64, money: i64, price: u32, rest: u32) -> bool {
-    match line {
-        Some(line) => line.claim.quantity == quantity
+    line.is_some_and(|line| {
+        line.claim.quantity == quantity
             && line.money == money
             && line.claim.price == price
-            && line.rest == rest,
-        None => false,
-    }
+            && line.rest == rest
+    })
 }
 
 #[test]
@@ -70,11 +64,11 @@ fn trades_net(rt: HostRuntime) {
     let mut register = empty();
     assert!(rt; traded(&mut register, 4, trade(1, 2, 60, 10)));
     assert!(rt; traded(&mut register, 4, trade(2, 1, 100, 12)));
-    assert!(rt; register.count == 2);
+    assert!(rt; register.len() == 2);
     assert!(rt; has(register.find(key(4, 1)), 40, 600, 12, 40));
     assert!(rt; has(register.find(key(4, 2)), -40, -600, 12, 40));
     assert!(rt; traded(&mut register, 4, trade(3, 3, MOST_QUANTITY, 1)));
-    assert!(rt; register.count == 3 && has(register.find(key(4, 3)), 0, 0, 0, 0));
+    assert!(rt; register.len() == 3 && has(register.find(key(4, 3)), 0, 0, 0, 0));
     assert!(rt; !traded(&mut register, 4, trade(2, 1, MOST_QUANTITY, 1)));
     assert!(rt; register.find(key(5, 1)).is_none());
 }
@@ -86,7 +80,7 @@ fn finished_lines_make_place(rt: HostRuntime) {
     assert!(rt; traded(&mut register, 4, trade(3, 3, 7, 1)));
     assert!(rt; traded(&mut register, 4, trade(2, 1, 7, 1)));
     assert!(rt; register.free() == PLACES - 4);
-    drop_by(&mut register, 4);
+    register.drop_finished(4);
     assert!(rt; register.free() == PLACES - 3 && register.find(key(4, 3)).is_none());
     let first = key(4, 1).number();
     assert!(rt;

@@ -1,8 +1,16 @@
 // A trade as the exchange tells it, and the keys of its two sides.
-ghost use Rattle.std.specs.Prelude.{◌≡◌};
-ghost use Rattle.register.specs.Netting.{flag_of, buyer_key, seller_key};
+ghost use Rattle.std.specs.Prelude.{◌≡◌, ◌*◌, ◌≤◌, pos};
+ghost use Rattle.register.specs.Limits.{most_quantity, most_price, most_money};
+ghost use Rattle.register.specs.Netting.{flag_of, key_of};
 
 use rank::key::{Flag, Key};
+
+// The two sides of a trade.
+#[derive(Clone, Copy, Debug, PartialEq, Eq)]
+pub enum Side {
+    Buyer,
+    Seller,
+}
 
 // A trade as it comes from outside: a flag is a number, and nothing is known of any field.
 #[derive(Clone, Copy)]
@@ -20,26 +28,44 @@ pub struct Trade {
 pub fn flag_of(number: u8) -> Flag
     ensures { result ≡ flag_of number }
 {
-    match number {
-        0 => Flag::LocalPrincipal,
-        1 => Flag::LocalClient,
-        2 => Flag::ForeignPrincipal,
-        _ => Flag::ForeignClient,
-    }
+    Flag::try_from(number).unwrap_or(Flag::ForeignClient)
 }
 
 impl Trade {
-    // The key of the buyer's line, for a trade that falls due on a day.
-    pub fn buyer_key(self, due: u32) -> Key
-        ensures { result ≡ buyer_key due self }
+    // The key of the line of a side, for a trade that falls due on a day.
+    pub fn key(self, side: Side, due: u32) -> Key
+        ensures { result ≡ key_of side due self }
     {
-        Key::new(due, self.security, self.buyer, flag_of(self.buyer_flag))
+        let (member, flag) = match side {
+            Side::Buyer => (self.buyer, self.buyer_flag),
+            Side::Seller => (self.seller, self.seller_flag),
+        };
+        Key::new(due, self.security, member, flag_of(flag))
+    }
+}
+
+// A trade that falls due on a day, with a quantity and a price within their limits.
+#[derive(Clone, Copy)]
+pub struct Deal {
+    pub due: u32,
+    pub trade: Trade,
+    ghost quantity: { trade.quantity ≤ most_quantity },
+    ghost price: { trade.price ≤ most_price },
+}
+
+impl Deal {
+    // The key of the line of a side.
+    pub fn key(self, side: Side) -> Key
+        ensures { result ≡ key_of side self.due self.trade }
+    {
+        self.trade.key(side, self.due)
     }
 
-    // The key of the seller's line.
-    pub fn seller_key(self, due: u32) -> Key
-        ensures { result ≡ seller_key due self }
+    // What the shares cost.
+    pub fn cost(self) -> i64
+        ensures value { result ≡ pos (self.trade.quantity * self.trade.price) }
+        ensures within { self.trade.quantity * self.trade.price ≤ most_money }
     {
-        Key::new(due, self.security, self.seller, flag_of(self.seller_flag))
+        i64::from(self.trade.quantity) * i64::from(self.trade.price)
     }
 }

@@ -1,3 +1,4 @@
+pub mod Tallies
 pub mod Limits
 pub mod Faults
 pub mod State
@@ -9,3 +10,4 @@ pub mod Questions
 pub mod Life
 pub mod Fit
 pub mod Examples
+pub mod Words

@@ -1,5 +1,10 @@
 // What a house knows beside its book.
+ghost use Rattle.std.specs.Prelude.{Some};
+ghost use Rattle.rules.specs.Words.{phase_word};
+
 use register::Register;
+use std::fmt;
+use std::marker::Model;
 
 // A house counts members and securities from 1: place 0 of the arrays below stays as it was made.
 pub const MEMBERS: usize = 25;
@@ -43,6 +48,25 @@ pub enum Phase {
     Shut,
 }
 
+// What a house keeps of one member.
+#[derive(Clone, Copy)]
+pub struct Seat {
+    pub member: Member,
+    pub escrow: Row,
+}
+
+impl fmt::Display for Phase {
+    ghost output = { λ p. Some (phase_word p) };
+
+    fn fmt<W: fmt::Write>(&self, f: &mut fmt::Formatter<W>) -> fmt::Result {
+        f.write_str(match self {
+            Phase::Morning => "morning",
+            Phase::Late => "late",
+            Phase::Shut => "shut",
+        })
+    }
+}
+
 // How many members and securities the house has. They never change.
 #[derive(Clone, Copy)]
 pub struct Size {
@@ -56,15 +80,27 @@ pub struct Clock {
     pub phase: Phase,
 }
 
-#[derive(Clone, Copy)]
+// The figures of a house. They fit their bounds, whatever befalls the house.
+#[derive(Drop)]
 pub struct Figures {
     pub size: Size,
     pub clock: Clock,
     pub register: Register,
-    pub records: [Member; MEMBERS],
-    pub escrow: [Row; MEMBERS],
+    pub seats: [Seat; MEMBERS],
     // The standing closing prices, 0 while there is none.
     pub closes: [u32; SECURITIES],
     // Fails that have begun.
     pub fails: u32,
+}
+
+impl Model for Figures {
+    ghost use Rattle.rules.specs.Tallies.{Tallies, tallied};
+
+    ghost Value = { Tallies };
+
+    ghost use Rattle.rules.specs.Fit.{Fit};
+
+    ghost view = { λ f. tallied f.size f.clock f.register f.seats f.closes f.fails };
+
+    ghost invariant = { λ f. Fit (tallied f.size f.clock f.register f.seats f.closes f.fails) };
 }

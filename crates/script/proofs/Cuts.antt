@@ -1,11 +1,13 @@
 -- The first word of a text, by the runs of bytes that the code counts.
-use Rattle.std.proofs.Common.{◌≡◌, ℕ, Bool, true, false, List, [], ◌∷◌, ◌++◌, length, take, drop, sym, refl, ap, ◌∙◌, append_assoc, append-nil, one-add, arith}
-use Rattle.std.specs.List.{prefix_len}
+use Rattle.std.proofs.Common.{◌≡◌, ℕ, ◌<◌, Bool, true, false, cond, nat_lt, List, [], ◌∷◌, ◌++◌, length, take, drop, Some, None, sym, refl, ap, ◌∙◌, append_assoc, append-nil, one-add, arith}
+use Rattle.std.proofs.lemmas.Bool.{ltb-true, ltb-false}
+use Rattle.std.proofs.lemmas.List.{drop_all}
+use Rattle.std.specs.List.{prefix_len, position, position_or_len}
 use Rattle.script.specs.Splitting.{white, dark, ahead, words_on, words_of}
 
 -- A text without the white space that it begins with.
 abbrev trimmed : List ℕ → List ℕ
-trimmed line = drop (prefix_len white line) line
+trimmed line = drop (position_or_len dark line) line
 
 -- The word that a text begins with.
 abbrev front : List ℕ → List ℕ
@@ -46,32 +48,46 @@ ahead_some : (w : List ℕ) (ws : List (List ℕ)) → (length w ≡ 0 → ⊥) 
 ahead_some [] ws some = absurd (some refl)
 ahead_some (b ∷ bs) ws some = refl
 
-some_word : (line : List ℕ) → (length (front (trimmed line)) ≡ 0 → ⊥) → words_of line ≡ front (trimmed line) ∷ words_of (behind (trimmed line))
-some_word line some = past_white line ∙ front_first [] (trimmed line) ∙ ahead_some _ _ some
+-- A text whose first byte is no white space begins with a word.
+dark_word : (b : ℕ) (bs : List ℕ) → white b ≡ false → words_of (b ∷ bs) ≡ front (b ∷ bs) ∷ words_of (behind (b ∷ bs))
+dark_word b bs e = front_first [] (b ∷ bs) ∙ ahead_some _ _ (λ h. let more = rw (e, one-add) at h in omega arith)
 
-front_dark : (b : ℕ) (bs : List ℕ) → white b ≡ false → length (front (b ∷ bs)) ≡ 0 → ⊥
-front_dark b bs e h = let more = rw (e, one-add) at h in omega arith
+-- The line goes on with its first word, and then with other words.
+abbrev Begins : List ℕ → Type 0
+Begins line = words_of line ≡ front (trimmed line) ∷ words_of (behind (trimmed line))
 
-no_word_by : (b : ℕ) (bs : List ℕ) (t : Bool) → white b ≡ t → (length (front (trimmed bs)) ≡ 0 → words_of bs ≡ []) → length (front (trimmed (b ∷ bs))) ≡ 0 → words_of (b ∷ bs) ≡ []
-no_word_by b bs true e h none = words_white b bs e ∙ h (ap (λ l. length (front l)) (sym (trim_white b bs e)) ∙ none)
-no_word_by b bs false e h none = absurd (front_dark b bs e (ap (λ l. length (front l)) (sym (trim_dark b bs e)) ∙ none))
+begins_by : (b : ℕ) (bs : List ℕ) (t : Bool) → white b ≡ t → (position_or_len dark bs < length bs → Begins bs) → position_or_len dark (b ∷ bs) < length (b ∷ bs) → Begins (b ∷ bs)
+begins_by b bs true e h some =
+    let fewer = rw (e, one-add) at some in
+    words_white b bs e ∙ h (omega arith) ∙ ap (λ t. front t ∷ words_of (behind t)) (sym (trim_white b bs e))
+begins_by b bs false e h some = dark_word b bs e ∙ ap (λ t. front t ∷ words_of (behind t)) (sym (trim_dark b bs e))
 
-no_word : (line : List ℕ) → length (front (trimmed line)) ≡ 0 → words_of line ≡ []
-no_word [] none = refl
-no_word (b ∷ bs) none = no_word_by b bs (white b) refl (no_word bs) none
+begins : (line : List ℕ) → position_or_len dark line < length line → Begins line
+begins [] some = absurd (omega arith)
+begins (b ∷ bs) some = begins_by b bs (white b) refl (begins bs) some
 
--- The same of the parts as the code has them.
-module _ (line text word rest : List ℕ) (gap len : ℕ) (gap_is : gap ≡ prefix_len white line) (text_is : text ≡ drop gap line)
-    (len_is : len ≡ prefix_len dark text) (word_is : word ≡ take len text) (rest_is : rest ≡ drop len text) where
-  word_front : word ≡ front (trimmed line)
-  word_front = cc
+module _ (line : List ℕ) where
+  abbrev place : ℕ
+  place = position_or_len dark line
 
-  rest_behind : rest ≡ behind (trimmed line)
-  rest_behind = cc
+  no_start_by : (t : Bool) → nat_lt place (length line) ≡ t → cond t (Some place) None ≡ None → words_of line ≡ []
+  no_start_by true k e = cc
+  no_start_by false k e = past_white line ∙ ap words_of (drop_all place line (ltb-false place (length line) k))
 
-  pub cut_none : length word ≡ 0 → words_of line ≡ []
-  cut_none e = no_word line (ap length (sym word_front) ∙ e)
+  pub no_start : position dark line ≡ None → words_of line ≡ []
+  no_start = no_start_by (nat_lt place (length line)) refl
 
-  pub cut_some : (length word ≡ 0 → ⊥) → words_of line ≡ word ∷ words_of rest
-  cut_some some =
-      some_word line (λ e. some (ap length word_front ∙ e)) ∙ (λ i. sym word_front i ∷ words_of (sym rest_behind i))
+  start_by : (start : ℕ) (t : Bool) → nat_lt place (length line) ≡ t → cond t (Some place) None ≡ Some start → words_of line ≡ front (drop start line) ∷ words_of (behind (drop start line))
+  start_by start true k e =
+      let same : place ≡ start = cc in
+      begins line (ltb-true place (length line) k) ∙ ap (λ n. front (drop n line) ∷ words_of (behind (drop n line))) same
+  start_by start false k e = cc
+
+  -- The same of the parts as the code has them.
+  pub first_word : (text word rest : List ℕ) (start len : ℕ) → position dark line ≡ Some start → text ≡ drop start line → len ≡ prefix_len dark text
+      → word ≡ take len text → rest ≡ drop len text → words_of line ≡ word ∷ words_of rest
+  first_word text word rest start len e text_is len_is word_is rest_is =
+      let parts = start_by start (nat_lt place (length line)) refl e in
+      let word_front : word ≡ front (drop start line) = cc in
+      let rest_behind : rest ≡ behind (drop start line) = cc in
+      parts ∙ (λ i. sym word_front i ∷ words_of (sym rest_behind i))

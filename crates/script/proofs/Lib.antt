@@ -1,4 +1,4 @@
 mod Cuts
-mod Fills
 pub mod Keeps
+mod Names
 mod Values

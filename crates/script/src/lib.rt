@@ -2,12 +2,10 @@
 #![tactic(auto)]
 
 pub mod command;
-mod form;
 pub mod line;
 pub mod misread;
 mod number;
 pub mod reader;
-mod row;
 #[cfg(test)]
 mod tests;
 mod words;

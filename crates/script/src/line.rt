@@ -1,28 +1,37 @@
 // A line while its bytes come in.
-ghost use Rattle.std.specs.Prelude.{◌≡◌};
-ghost use Rattle.script.specs.Gathering.{pushed, cleared, kept, WholeLines};
+ghost use Rattle.std.specs.Prelude.{◌≡◌, []};
+ghost use Rattle.script.specs.Gathering.{pushed, WholeLines};
 ghost use Rattle.script.specs.Meaning.{meaning};
 
 use crate::command::Command;
 use crate::misread::Misread;
 use crate::reader::read;
+use arrayvec::ArrayVec;
+use std::marker::Model;
 
 // One byte more than a line may have. Those that follow are let go: there are too many whatever they are.
 const KEPT: usize = 65_537;
 
 #[derive(Drop)]
 pub struct Line {
-    bytes: [u8; KEPT],
-    held: usize,
+    bytes: ArrayVec<u8, KEPT>,
+}
+
+// A line is the list of the bytes that are kept of it.
+impl Model for Line {
+    ghost use Rattle.std.specs.Prelude.{ℕ, List};
+
+    ghost Value = { List ℕ };
+
+    ghost view = { λ l. l.bytes.items };
 }
 
 impl Line {
     pub fn new() -> Line
-        ensures { result.held ≡ 0 }
+        ensures { result ≡ [] }
     {
         Line {
-            bytes: [0; KEPT],
-            held: 0,
+            bytes: ArrayVec::new(),
         }
     }
 
@@ -30,31 +39,23 @@ impl Line {
     pub fn push(&mut self, byte: u8)
         ensures { self.new ≡ pushed self.old byte }
     {
-        if self.held < KEPT {
-            self.bytes[self.held] = byte;
-            self.held += 1;
+        if !self.bytes.is_full() {
+            self.bytes.push(byte);
         }
     }
 
     // Begins the next line.
     pub fn clear(&mut self)
-        ensures { self.new ≡ cleared self.old }
+        ensures { self.new ≡ [] }
     {
-        self.held = 0;
-    }
-
-    fn kept(&self) -> &[u8]
-        ensures { result.now ≡ kept self.now }
-    {
-        let all = &self.bytes[..];
-        &all[0..self.held.min(KEPT)]
+        self.bytes.clear();
     }
 
     // What the bytes that are kept say.
     pub fn read(&self) -> Result<Option<Command>, Misread>
-        ensures { result ≡ meaning (kept self.now) }
+        ensures { result ≡ meaning self.now }
     {
-        read(self.kept())
+        read(self.bytes.as_slice())
     }
 }
 

@@ -33,6 +33,7 @@ impl Misread {
     }
 }
 
+// By hand, since a derived text promises nothing.
 impl fmt::Display for Misread {
     ghost output = { λ m. Some (wording m) };
 

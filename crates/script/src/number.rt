@@ -1,34 +1,23 @@
 // Numbers as a script writes them.
-ghost use Rattle.std.specs.Prelude.{◌≡◌};
-ghost use Rattle.script.specs.Numeral.{digit, numeral};
+ghost use Rattle.std.specs.Prelude.{◌≡◌, ◌-◌, ◌^◌};
+ghost use Rattle.script.specs.Numeral.{digits, numeral};
 
 use crate::misread::Misread;
 
-// A number past the largest that any place of a command takes.
-const PAST: u128 = 18_446_744_073_709_551_616;
-
-fn is_digit(byte: u8) -> bool
-    ensures { result ≡ digit byte }
+// Whether the word has decimal digits alone.
+fn is_digits(word: &[u8]) -> bool
+    ensures { result ≡ digits word.now }
 {
-    byte >= b'0' && byte <= b'9'
+    word.iter().all(|byte| byte.is_ascii_digit())
 }
 
-// The number that a word of decimal digits writes, if it is at most `most`.
-pub(crate) fn number(word: &[u8], most: u64) -> Result<u64, Misread>
-    ensures { result ≡ numeral most word.now }
+// The number of 64 bits that a word of decimal digits writes.
+pub(crate) fn number(word: &[u8]) -> Result<u64, Misread>
+    ensures { result ≡ numeral (2 ^ 64 - 1) word.now }
 {
-    if word.is_empty() {
+    if word.is_empty() || !is_digits(word) {
         return Err(Misread::NoNumber);
     }
-    let mut value: u128 = 0;
-    for byte in word {
-        if !is_digit(*byte) {
-            return Err(Misread::NoNumber);
-        }
-        value = (value * 10 + (*byte - b'0') as u128).min(PAST);
-    }
-    if value > most as u128 {
-        return Err(Misread::Range);
-    }
-    Ok(value as u64)
+    let text = str::from_utf8(word).or(Err(Misread::NoNumber))?;
+    text.parse().or(Err(Misread::Range))
 }

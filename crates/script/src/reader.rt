@@ -1,11 +1,10 @@
 // What a line says.
-ghost use Rattle.std.specs.Prelude.{◌≡◌};
+ghost use Rattle.std.specs.Prelude.{◌≡◌, Ok, Err, MatchResult};
+ghost use Rattle.script.specs.Forms.{told};
 ghost use Rattle.script.specs.Meaning.{meaning};
 
-use crate::command::Command;
-use crate::form::{fields, find_verb};
+use crate::command::{BookCommand, Command};
 use crate::misread::Misread;
-use crate::row::Row;
 use crate::words::Words;
 
 // The most bytes that a line may have.
@@ -19,15 +18,48 @@ pub fn read(line: &[u8]) -> Result<Option<Command>, Misread>
         return Err(Misread::Long);
     }
     let mut words = Words::of(line);
-    let Some(first) = words.next() else {
-        return Ok(None);
+    let name = match words.next() {
+        Some(name) if !name.starts_with(b"#") => name,
+        _ => return Ok(None),
     };
-    if first.starts_with(b"#") {
-        return Ok(None);
+    let command = command(name, &mut words)?;
+    words.end()?;
+    Ok(Some(command))
+}
+
+// What a command's name says with the words after it. The words that are left are no part of it.
+fn command(name: &[u8], words: &mut Words) -> Result<Command, Misread>
+    ensures { MatchResult result (λ c. told name.now words.old ≡ Ok (c, words.new)) (λ e. told name.now words.old ≡ Err e) }
+{
+    match name {
+        b"book" => {
+            words.keyword(b"table")?;
+            Ok(Command::Table {
+                accounts: words.byte()?,
+                assets: words.byte()?,
+            })
+        }
+        b"put" => Ok(Command::OnBook(BookCommand::Put {
+            account: words.byte()?,
+            asset: words.byte()?,
+            amount: words.amount()?,
+        })),
+        b"pull" => Ok(Command::OnBook(BookCommand::Pull {
+            account: words.byte()?,
+            asset: words.byte()?,
+            amount: words.amount()?,
+        })),
+        b"move" => Ok(Command::OnBook(BookCommand::Move {
+            from: words.byte()?,
+            to: words.byte()?,
+            asset: words.byte()?,
+            amount: words.amount()?,
+        })),
+        b"balance" => Ok(Command::OnBook(BookCommand::Balance {
+            account: words.byte()?,
+            asset: words.byte()?,
+        })),
+        b"balances" => Ok(Command::OnBook(BookCommand::Balances)),
+        _ => Err(Misread::Unknown),
     }
-    let Some(verb) = find_verb(first) else {
-        return Err(Misread::Unknown);
-    };
-    let row = Row::read(fields(verb), &mut words)?;
-    Ok(Some(row.command(verb)))
 }

@@ -1,3 +1,1 @@
-mod Hearing
-mod Listing
 mod Runs

@@ -1,4 +1,5 @@
 pub mod Answers
+pub mod Books
 pub mod Obedience
 pub mod Sessions
 pub mod Statements

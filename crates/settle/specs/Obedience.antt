@@ -8,17 +8,12 @@ use Rattle.book.specs.Movement.{Movement, refusals, no_account, no_asset, Shifte
 use Rattle.book.specs.Refusals.{Refusal, ◌when◌, first}
 use Rattle.script.specs.declared.command.BookCommand.{BookCommand}
 use Rattle.script.specs.declared.command.BookCommand.TheVariants as command
-use Rattle.settle.specs.declared.answer.Answer.{Answer}
-use Rattle.settle.specs.declared.answer.Answer.TheVariants.{Done, Refused, Amount, Balances}
-
--- What is heard of a movement.
-abbrev pub told : Result (Unit {0}) BookFault → Answer
-told (Ok u) = Done
-told (Err fault) = Refused fault
+use Rattle.settle.specs.declared.answer.Reply.{Reply}
+use Rattle.settle.specs.declared.answer.Reply.TheVariants.{Done, Amount, Balances}
 
 -- A movement is answered by the first of its refusals that applies.
-abbrev pub judged : Ledger → Movement → Answer
-judged b m = first Refused Done (refusals b m)
+abbrev pub judged : Ledger → Movement → Result Reply BookFault
+judged b m = first Err (Ok Done) (refusals b m)
 
 -- The refusals of a question for a balance, in their order.
 abbrev pub balance_refusals : Ledger → ℕ → ℕ → List (Refusal BookFault)
@@ -26,12 +21,12 @@ balance_refusals b a s =
     NoAccount when no_account b a ∷
     NoAsset when no_asset b s ∷ []
 
-abbrev pub answer_to : Ledger → BookCommand → Answer
+abbrev pub answer_to : Ledger → BookCommand → Result Reply BookFault
 answer_to b (command.Put a s n) = judged b (movement.Put a s n)
 answer_to b (command.Pull a s n) = judged b (movement.Pull a s n)
 answer_to b (command.Move a c s n) = judged b (movement.Move a c s n)
-answer_to b (command.Balance a s) = first Refused (Amount (b.held a s)) (balance_refusals b a s)
-answer_to b command.Balances = Balances b.space
+answer_to b (command.Balance a s) = first Err (Ok (Amount (b.held a s))) (balance_refusals b a s)
+answer_to b command.Balances = Ok (Balances b.space)
 
 -- The command leaves the book t of the book b. A question leaves it as it was.
 abbrev pub Left : BookCommand → Ledger → Ledger → Type 0

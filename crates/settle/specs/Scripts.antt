@@ -1,12 +1,11 @@
 -- A script is answered line by line.
-use Rattle.std.specs.Prelude.{◌≡◌, ℕ, false, List, [], ◌∷◌, ◌++◌, length, Option, ◌==◌}
+use Rattle.std.specs.Prelude.{◌≡◌, ℕ, false, List, [], ◌∷◌, ◌++◌, Option, ◌==◌}
 use Rattle.std.specs.List.{flat_map, AllByRecursion}
 use Rattle.std.specs.Option.{option_to_list}
-use Rattle.script.specs.Gathering.{room}
 use Rattle.script.specs.Meaning.{meaning}
-use Rattle.settle.specs.declared.answer.Answer.{Answer}
 use Rattle.settle.specs.declared.desk.Desk.{Desk}
 use Rattle.settle.specs.declared.session.Session.{Session}
+use Rattle.settle.specs.Answers.{Answer}
 use Rattle.settle.specs.Desks.{Took}
 use Rattle.settle.specs.Sessions.{Turn}
 
@@ -31,5 +30,5 @@ script_of lines = flat_map (λ l. l ++ 10 ∷ []) lines
 -- From a desk where a line begins, the bytes of a script are answered as its lines are.
 abbrev pub LineByLine : Type 0
 LineByLine =
-    (lines : List (List ℕ)) (d e : Desk) (rs : List Answer) → length d.line.bytes ≡ room → d.line.held ≡ 0 →
+    (lines : List (List ℕ)) (d e : Desk) (rs : List Answer) → d.line ≡ [] →
     AllByRecursion Unbroken lines → Ran (script_of lines) d rs e → AnsweredAll lines d.session rs e.session

@@ -1,8 +1,8 @@
 // The script as its bytes come in: the line that has begun, and the session that answers it.
-ghost use Rattle.std.specs.Prelude.{◌≡◌};
+ghost use Rattle.std.specs.Prelude.{◌≡◌, []};
 ghost use Rattle.std.specs.Option.{option_map};
 ghost use Rattle.settle.specs.Desks.{Took, Ended};
-ghost use Rattle.settle.specs.Sessions.{Good, failed};
+ghost use Rattle.settle.specs.Sessions.{failed};
 
 use crate::answer::Answer;
 use crate::session::Session;
@@ -17,8 +17,7 @@ pub struct Desk {
 
 impl Desk {
     pub fn new() -> Desk
-        ensures line { result.line.held ≡ 0 }
-        ensures good { Good result.session.book }
+        ensures { result.line ≡ [] }
     {
         Desk {
             line: Line::new(),
@@ -28,8 +27,7 @@ impl Desk {
 
     // Goes on by one byte. The one that ends a line gives the line's answer.
     pub fn take(&mut self, byte: u8) -> Option<Answer>
-        ensures took { Good self.old.session.book → Took byte self.old result self.new }
-        ensures stays { Good self.old.session.book → Good self.new.session.book }
+        ensures { Took byte self.old result self.new }
     {
         if byte == b'\n' {
             self.end_line()
@@ -41,8 +39,7 @@ impl Desk {
 
     // Ends the line, and gives its answer. The last line of an input may have no byte that ends it.
     pub fn end_line(&mut self) -> Option<Answer>
-        ensures ended { Good self.old.session.book → Ended self.old result self.new }
-        ensures stays { Good self.old.session.book → Good self.new.session.book }
+        ensures { Ended self.old result self.new }
     {
         let answer = self.session.answer(self.line.read());
         self.line.clear();

@@ -8,7 +8,7 @@ mod orders;
 mod session;
 mod statement;
 
-use answer::Answer;
+use answer::{Answer, Reply};
 use book::Book;
 use desk::Desk;
 use statement::account_line;
@@ -32,58 +32,77 @@ fn main(rt: HostRuntime) -> anyhow::Result<ExitCode> {
 fn run(rt: &HostRuntime) -> anyhow::Result<bool> {
     let heap = rt.alloc();
     let mut input = rt.stdin();
-    let mut out = BufWriter::new(heap, rt.stdout())?;
     let mut chunk = [0u8; CHUNK];
-    let mut desk = Desk::new();
+    let mut teller = Teller {
+        heap,
+        desk: Desk::new(),
+        out: BufWriter::new(heap, rt.stdout())?,
+    };
+    // A count stands in for the loop to the input's end, which has no measure. The library's own loops would read without the flush.
     for _ in 0..u64::MAX {
         // Whoever types the script has the answers so far before more is read.
-        out.flush()?;
+        teller.out.flush()?;
         let n = input.read(&mut chunk)?;
         if n == 0 {
             break;
         }
-        take(heap, &chunk[0..n], &mut desk, &mut out)?;
+        teller.take(&chunk[..n])?;
     }
-    let last = desk.end_line();
-    say(heap, last, &desk, &mut out)?;
-    out.flush()?;
-    Ok(desk.failed())
+    teller.end()?;
+    Ok(teller.desk.failed())
 }
 
-// Goes on with the script by some bytes.
-fn take<W: Write>(heap: Global, bytes: &[u8], desk: &mut Desk, out: &mut W) -> io::Result<()> {
-    for byte in bytes {
-        let answer = desk.take(*byte);
-        // Most bytes have no answer.
-        if answer.is_some() {
-            say(heap, answer, desk, out)?;
+// The script so far, and where its answers are printed.
+#[derive(Drop)]
+struct Teller<W: Write> {
+    heap: Global,
+    desk: Desk,
+    out: W,
+}
+
+impl<W: Write> Teller<W> {
+    // Goes on with the script by some bytes.
+    fn take(&mut self, bytes: &[u8]) -> io::Result<()> {
+        for byte in bytes {
+            // Most bytes have no answer.
+            if let Some(answer) = self.desk.take(*byte) {
+                self.say(answer)?;
+            }
         }
+        Ok(())
     }
-    Ok(())
-}
 
-// Prints an answer, if there is one.
-fn say<W: Write>(heap: Global, answer: Option<Answer>, desk: &Desk, out: &mut W) -> io::Result<()> {
-    let Some(answer) = answer else {
-        return Ok(());
-    };
-    writeln!(out, "{answer}")?;
-    if let Answer::Balances { .. } = answer {
-        list(heap, desk, out)?;
+    // Ends the script.
+    fn end(&mut self) -> io::Result<()> {
+        if let Some(answer) = self.desk.end_line() {
+            self.say(answer)?;
+        }
+        self.out.flush()
     }
-    Ok(())
-}
 
-// Prints a line for each account of the book.
-fn list<W: Write>(heap: Global, desk: &Desk, out: &mut W) -> io::Result<()> {
-    let Some(book) = desk.book() else {
-        return Ok(());
-    };
-    for account in 0..book.accounts() {
-        let text = account_line(heap, book, account)?;
-        writeln!(out, "{text}")?;
+    // Prints an answer.
+    fn say(&mut self, answer: Answer) -> io::Result<()> {
+        match answer {
+            Ok(reply) => writeln!(self.out, "{reply}")?,
+            Err(trouble) => writeln!(self.out, "{trouble}")?,
+        }
+        if let Ok(Reply::Balances { .. }) = answer {
+            self.list()?;
+        }
+        Ok(())
     }
-    Ok(())
+
+    // Prints a line for each account of the book.
+    fn list(&mut self) -> io::Result<()> {
+        let Some(book) = self.desk.book() else {
+            return Ok(());
+        };
+        for account in 0..book.accounts() {
+            let text = account_line(self.heap, book, account)?;
+            writeln!(self.out, "{text}")?;
+        }
+        Ok(())
+    }
 }
 
 #[cfg(test)]

@@ -1,23 +1,13 @@
 // What a command does with any book.
 ghost use Rattle.std.specs.Prelude.{◌≡◌};
-ghost use Rattle.settle.specs.Obedience.{told, answer_to, Left};
+ghost use Rattle.settle.specs.Obedience.{answer_to, Left};
 
-use crate::answer::Answer;
+use crate::answer::Reply;
 use book::Book;
 use book::fault::BookFault;
 use script::command::BookCommand;
 
-// A movement's answer.
-fn heard(answer: Result<(), BookFault>) -> Answer
-    ensures { result ≡ told answer }
-{
-    match answer {
-        Ok(()) => Answer::Done,
-        Err(fault) => Answer::Refused(fault),
-    }
-}
-
-pub fn obey<B: Book>(book: &mut B, command: BookCommand) -> Answer
+pub fn obey<B: Book>(book: &mut B, command: BookCommand) -> Result<Reply, BookFault>
     ensures answer { B.good book.old → result ≡ answer_to (B.ledger book.old) command }
     ensures left { B.good book.old → Left command (B.ledger book.old) (B.ledger book.new) }
     ensures stays { B.good book.old → B.good book.new }
@@ -27,24 +17,24 @@ pub fn obey<B: Book>(book: &mut B, command: BookCommand) -> Answer
             account,
             asset,
             amount,
-        } => heard(book.put(account, asset, amount)),
+        } => book.put(account, asset, amount).and(Ok(Reply::Done)),
         BookCommand::Pull {
             account,
             asset,
             amount,
-        } => heard(book.pull(account, asset, amount)),
+        } => book.pull(account, asset, amount).and(Ok(Reply::Done)),
         BookCommand::Move {
             from,
             to,
             asset,
             amount,
-        } => heard(book.transfer(from, to, asset, amount)),
-        BookCommand::Balance { account, asset } => match book.balance(account, asset) {
-            Ok(held) => Answer::Amount(held),
-            Err(fault) => Answer::Refused(fault),
-        },
-        BookCommand::Balances => Answer::Balances {
+        } => book.transfer(from, to, asset, amount).and(Ok(Reply::Done)),
+        BookCommand::Balance { account, asset } => {
+            let held = book.balance(account, asset)?;
+            Ok(Reply::Amount(held))
+        }
+        BookCommand::Balances => Ok(Reply::Balances {
             space: book.space(),
-        },
+        }),
     }
 }

@@ -5,6 +5,7 @@ ghost use Rattle.settle.specs.Statements.{account_text};
 use book::Book;
 use book::shift::holds;
 use std::alloc::{AllocError, Global};
+use std::fmt::Write;
 
 // The line of one account: its number, and what it holds of each asset.
 pub fn account_line<B: Book>(heap: Global, book: &B, account: u8) -> Result<String, AllocError>
@@ -13,8 +14,7 @@ pub fn account_line<B: Book>(heap: Global, book: &B, account: u8) -> Result<Stri
     let mut text = format!(in heap; "account {account}")?;
     for asset in 0..book.assets() {
         let held = holds(book, account, asset);
-        let word = format!(in heap; " {held}")?;
-        text.push_str(word.as_str())?;
+        write!(text, " {held}")?;
     }
     Ok(text)
 }

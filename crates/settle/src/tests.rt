@@ -1,7 +1,17 @@
 // What scripts are answered, by example.
+use crate::answer::Answer;
 use crate::desk::Desk;
 use std::alloc::{AllocError, Global};
+use std::fmt::Write;
 use std::test::Fail;
+
+// An answer, on a line of its own.
+fn write_line(text: &mut String, answer: Answer) -> Result<(), AllocError> {
+    match answer {
+        Ok(reply) => writeln!(text, "{reply}"),
+        Err(trouble) => writeln!(text, "{trouble}"),
+    }
+}
 
 // The answers to a script, each on a line of its own.
 fn answers(heap: Global, script: &[u8]) -> Result<String, AllocError> {
@@ -9,11 +19,11 @@ fn answers(heap: Global, script: &[u8]) -> Result<String, AllocError> {
     let mut text = String::new(heap);
     for byte in script {
         if let Some(answer) = desk.take(*byte) {
-            text.push_str(format!(in heap; "{answer}\n")?.as_str())?;
+            write_line(&mut text, answer)?;
         }
     }
     if let Some(answer) = desk.end_line() {
-        text.push_str(format!(in heap; "{answer}\n")?.as_str())?;
+        write_line(&mut text, answer)?;
     }
     if desk.failed() {
         text.push_str("failed")?;

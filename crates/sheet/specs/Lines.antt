@@ -1,23 +1,15 @@
 -- A line of the register as text.
 use Rattle.std.specs.Prelude.{ℕ, List, ◌++◌, codes, decimal}
 use Rattle.std.specs.Fmt.{signed_decimal}
-use Rattle.rank.specs.declared.key.Flag.{Flag}
-use Rattle.rank.specs.declared.key.Flag.TheVariants.{LocalPrincipal, LocalClient, ForeignPrincipal, ForeignClient}
 use Rattle.rank.specs.declared.key.Key.{Key}
-use Rattle.rank.specs.Keys.{key_number}
+use Rattle.rank.specs.Keys.{key_number, flag_letters}
 use Rattle.register.specs.declared.line.Line.{Line}
-
-abbrev pub flag_word : Flag → List ℕ
-flag_word LocalPrincipal = codes "LP"
-flag_word LocalClient = codes "LC"
-flag_word ForeignPrincipal = codes "FP"
-flag_word ForeignClient = codes "FC"
 
 -- line KEY due D security S member M flag FF
 abbrev pub key_text : Key → List ℕ
 key_text k =
     codes "line " ++ (decimal (key_number k) ++ (codes " due " ++ (decimal k.due ++ (codes " security " ++ (decimal k.security ++
-    (codes " member " ++ (decimal k.member ++ (codes " flag " ++ flag_word k.flag))))))))
+    (codes " member " ++ (decimal k.member ++ (codes " flag " ++ flag_letters k.flag))))))))
 
 -- quantity Q money N order O
 abbrev pub net_text : Line → List ℕ

@@ -2,8 +2,7 @@
 use Rattle.std.specs.Prelude.{ℕ, List, ◌++◌, codes, decimal}
 use Rattle.book.specs.Ledger.{Ledger}
 use Rattle.rules.specs.declared.figures.Figures.{Figures}
-use Rattle.rules.specs.declared.figures.Phase.{Phase}
-use Rattle.rules.specs.declared.figures.Phase.TheVariants.{Morning, Late, Shut}
+use Rattle.rules.specs.Words.{phase_word}
 use Rattle.rules.specs.State.{close, today}
 use Rattle.sheet.specs.declared.overview.Overview.{Overview}
 use Rattle.sheet.specs.declared.overview.Closing.{Closing}
@@ -16,11 +15,6 @@ overview_of f b = record {
   space = b.space;
   lines = f.register.count;
 }
-
-abbrev pub phase_word : Phase → List ℕ
-phase_word Morning = codes "morning"
-phase_word Late = codes "late"
-phase_word Shut = codes "shut"
 
 -- day D PHASE fails F space P lines L
 abbrev pub overview_text : Overview → List ℕ

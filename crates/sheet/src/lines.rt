@@ -1,21 +1,10 @@
 // A line of the register as text.
-ghost use Rattle.std.specs.Prelude.{◌≡◌, Some};
-ghost use Rattle.sheet.specs.Lines.{flag_word, key_text, line_text, net_text, settling_text};
+ghost use Rattle.std.specs.Prelude.{Some};
+ghost use Rattle.sheet.specs.Lines.{key_text, line_text, net_text, settling_text};
 
-use rank::key::{Flag, Key};
+use rank::key::Key;
 use register::line::Line;
 use std::fmt;
-
-fn flag_word(flag: Flag) -> &'static str
-    ensures { result.now ≡ flag_word flag }
-{
-    match flag {
-        Flag::LocalPrincipal => "LP",
-        Flag::LocalClient => "LC",
-        Flag::ForeignPrincipal => "FP",
-        Flag::ForeignClient => "FC",
-    }
-}
 
 // What a line is known by, as it is shown.
 #[derive(Clone, Copy)]
@@ -31,7 +20,7 @@ impl fmt::Display for KeyText {
         let due = self.key.due;
         let security = self.key.security;
         let member = self.key.member;
-        let flag = flag_word(self.key.flag);
+        let flag = self.key.flag;
         write!(
             f,
             "line {number} due {due} security {security} member {member} flag {flag}"

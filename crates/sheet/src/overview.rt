@@ -1,6 +1,6 @@
 // Where a house stands, and the closing prices.
-ghost use Rattle.std.specs.Prelude.{◌≡◌, Some};
-ghost use Rattle.sheet.specs.Overview.{closing_text, overview_text, phase_word};
+ghost use Rattle.std.specs.Prelude.{Some};
+ghost use Rattle.sheet.specs.Overview.{closing_text, overview_text};
 
 use rules::figures::Phase;
 use std::fmt;
@@ -15,22 +15,12 @@ pub struct Overview {
     pub lines: usize,
 }
 
-fn phase_word(phase: Phase) -> &'static str
-    ensures { result.now ≡ phase_word phase }
-{
-    match phase {
-        Phase::Morning => "morning",
-        Phase::Late => "late",
-        Phase::Shut => "shut",
-    }
-}
-
 impl fmt::Display for Overview {
     ghost output = { λ v. Some (overview_text v) };
 
     fn fmt<W: fmt::Write>(&self, f: &mut fmt::Formatter<W>) -> fmt::Result {
         let day = self.day;
-        let phase = phase_word(self.phase);
+        let phase = self.phase;
         let fails = self.fails;
         let space = self.space;
         let lines = self.lines;

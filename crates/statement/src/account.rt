@@ -2,6 +2,7 @@
 ghost use Rattle.std.specs.Prelude.{◌≡◌, IfOk, string_bytes};
 ghost use Rattle.statement.specs.Rows.{account_text, row_text};
 
+use crate::row::row;
 use book::Book;
 use book::shift::holds;
 use std::alloc::{AllocError, Global};
@@ -10,13 +11,7 @@ use std::alloc::{AllocError, Global};
 fn balances<B: Book>(heap: Global, book: &B, account: u8) -> Result<String, AllocError>
     ensures { B.good book.now → IfOk result (λ text. string_bytes text ≡ row_text ((B.ledger book.now).held account) 0 (B.ledger book.now).assets) }
 {
-    let mut text = String::new(heap);
-    for asset in 0..book.assets() {
-        let held = holds(book, account, asset);
-        let word = format!(in heap; " {held}")?;
-        text.push_str(word.as_str())?;
-    }
-    Ok(text)
+    row(heap, |asset| holds(book, account, asset), 0, book.assets())
 }
 
 // The line of one account: its number, and what it holds of each asset.

@@ -1,84 +1,50 @@
 // Rows of amounts: what an account of a house holds of each asset, and what escrow holds in a member's name of each security.
-ghost use Rattle.std.specs.Prelude.{◌≡◌, ◌-◌, IfOk, string_bytes};
-ghost use Rattle.rules.specs.State.{collateral, contribution};
+ghost use Rattle.std.specs.Prelude.{◌≡◌, ℕ, ◌-◌, IfOk, string_bytes};
+ghost use Rattle.desk.specs.Accounts.{account_of};
 ghost use Rattle.desk.specs.Passed.{state_of};
-ghost use Rattle.statement.specs.Rows.{amount_in, cash_on, guarantee_text, holdings_text, member_text, or_none, own_text, own_word, row_text};
+ghost use Rattle.statement.specs.Rows.{cash_on, escrowed_amount, guarantee_text, holdings_text, member_text, own_amount, own_text, row_text, settled_amount};
 
 use book::Book;
+use desk::accounts::{CASH, Own, Purse};
 use house::house::House;
 use rank::Rank;
-use rules::fault::HouseFault;
 use std::alloc::{AllocError, Global};
 
-// An account of the house itself.
-#[derive(Clone, Copy)]
-pub enum Own {
-    Pool,
-    Escrow,
-    Reserve,
-}
-
-// What a row has the amounts of.
-#[derive(Clone, Copy)]
-pub enum Column {
-    // An account of the house, by asset.
-    House(Own),
-    // A member's settlement account, by asset.
-    Settlement(u8),
-    // The shares that escrow holds in a member's name, by security.
-    InEscrow(u8),
-}
-
-// What a question told; 0 where it was refused.
-fn or_none(answer: Result<u64, HouseFault>) -> u64
-    ensures { result ≡ or_none answer }
-{
-    match answer {
-        Ok(amount) => amount,
-        Err(_) => 0,
-    }
-}
-
-// The amount at a place of a row, from 0 on. Nothing is shown of what the house has not.
-fn amount_in<B: Book, R: Rank>(house: &House<B, R>, column: Column, place: u8) -> u64
-    ensures { B.good house.now.book → result ≡ amount_in house.now.refusal (state_of house.now.figures (B.ledger house.now.book)) column place }
-{
-    or_none(match column {
-        Column::House(Own::Pool) => house.pool(place),
-        Column::House(Own::Escrow) => house.escrow(place),
-        Column::House(Own::Reserve) => house.reserve(place),
-        Column::Settlement(member) => house.settlement(member, place),
-        Column::InEscrow(member) => house.in_escrow(member, place),
-    })
-}
-
-// The amounts of a row from a place up to another, each after a space.
-fn row<B: Book, R: Rank>(
+// So many amounts, from a place up to another, each after a space.
+pub(crate) fn row<F: Fn(u8) -> u64>(
     heap: Global,
-    house: &House<B, R>,
-    column: Column,
+    amount: F,
     from: u8,
     to: u8,
 ) -> Result<String, AllocError>
-    ensures { B.good house.now.book → IfOk result (λ text. string_bytes text ≡ row_text (amount_in house.now.refusal (state_of house.now.figures (B.ledger house.now.book)) column) from (to - from)) }
+    requires { F.IsAlwaysCallable amount }
+    ensures { (a : ℕ → ℕ) → ((place n : ℕ) → F.post amount place n → n ≡ a place) → IfOk result (λ text. string_bytes text ≡ row_text a from (to - from)) }
 {
     let mut text = String::new(heap);
     for place in from..to {
-        let amount = amount_in(house, column, place);
-        let word = format!(in heap; " {amount}")?;
+        let word = format!(in heap; " {}", amount(place))?;
         text.push_str(word.as_str())?;
     }
     Ok(text)
 }
 
-fn own_word(own: Own) -> &'static str
-    ensures { result.now ≡ own_word own }
+// The amounts at a place of such a row. Nothing is shown of what the house has not.
+fn own_amount<B: Book, R: Rank>(house: &House<B, R>, own: Own, place: u8) -> u64
+    ensures { B.good house.now.book → result ≡ own_amount house.now.refusal (state_of house.now.figures (B.ledger house.now.book)) own place }
 {
-    match own {
-        Own::Pool => "pool",
-        Own::Escrow => "escrow",
-        Own::Reserve => "reserve",
-    }
+    house.own_balance(own, place).unwrap_or(0)
+}
+
+fn settled_amount<B: Book, R: Rank>(house: &House<B, R>, member: u8, place: u8) -> u64
+    ensures { B.good house.now.book → result ≡ settled_amount house.now.refusal (state_of house.now.figures (B.ledger house.now.book)) member place }
+{
+    house.balance(member, Purse::Settlement, place).unwrap_or(0)
+}
+
+fn escrowed_amount<B: Book, R: Rank>(house: &House<B, R>, member: u8, place: u8) -> u64
+    ensures { B.good house.now.book → result ≡ escrowed_amount house.now.refusal (state_of house.now.figures (B.ledger house.now.book)) member place }
+{
+    house.in_escrow(member, place).unwrap_or(0)
 }
 
 // What an account of the house holds of so many assets.
@@ -90,22 +56,15 @@ pub fn own_line<B: Book, R: Rank>(
 ) -> Result<String, AllocError>
     ensures { B.good house.now.book → IfOk result (λ text. string_bytes text ≡ own_text house.now.refusal (state_of house.now.figures (B.ledger house.now.book)) own assets) }
 {
-    let word = own_word(own);
-    let amounts = row(heap, house, Column::House(own), 0, assets)?;
-    format!(in heap; "{word}{amounts}")
+    let amounts = row(heap, |place| own_amount(house, own, place), 0, assets)?;
+    format!(in heap; "{own}{amounts}")
 }
 
-// The cash that a member has pledged, and what it has contributed. Nothing is shown of what the house has not.
-fn pledged<B: Book, R: Rank>(house: &House<B, R>, member: u8) -> u64
-    ensures { B.good house.now.book → result ≡ cash_on house.now.refusal (state_of house.now.figures (B.ledger house.now.book)) member (collateral member) }
+// The cash of a member on an account of its own. Nothing is shown of what the house has not.
+fn cash_of<B: Book, R: Rank>(house: &House<B, R>, member: u8, purse: Purse) -> u64
+    ensures { B.good house.now.book → result ≡ cash_on house.now.refusal (state_of house.now.figures (B.ledger house.now.book)) member (account_of purse member) }
 {
-    or_none(house.collateral(member))
-}
-
-fn contributed<B: Book, R: Rank>(house: &House<B, R>, member: u8) -> u64
-    ensures { B.good house.now.book → result ≡ cash_on house.now.refusal (state_of house.now.figures (B.ledger house.now.book)) member (contribution member) }
-{
-    or_none(house.contribution(member))
+    house.balance(member, purse, CASH).unwrap_or(0)
 }
 
 // A member's cash behind its obligations, and a row of what escrow holds in its name.
@@ -141,10 +100,20 @@ pub fn holdings_line<B: Book, R: Rank>(
 ) -> Result<String, AllocError>
     ensures { B.good house.now.book → IfOk result (λ text. string_bytes text ≡ holdings_text house.now.refusal (state_of house.now.figures (B.ledger house.now.book)) member assets) }
 {
-    let settled = row(heap, house, Column::Settlement(member), 0, assets)?;
-    let escrowed = row(heap, house, Column::InEscrow(member), 1, assets)?;
-    let pledged = pledged(house, member);
-    let contributed = contributed(house, member);
+    let settled = row(
+        heap,
+        |place| settled_amount(house, member, place),
+        0,
+        assets,
+    )?;
+    let escrowed = row(
+        heap,
+        |place| escrowed_amount(house, member, place),
+        1,
+        assets,
+    )?;
+    let pledged = cash_of(house, member, Purse::Collateral);
+    let contributed = cash_of(house, member, Purse::Contribution);
     let guarantee = guarantee_text(heap, pledged, contributed, escrowed.as_str())?;
     member_text(heap, member, settled.as_str(), guarantee.as_str())
 }

@@ -1,11 +1,9 @@
 // The table: a book that keeps a number for each account and asset.
 #![tactic(auto)]
 
-ghost use Rattle.std.specs.Prelude.{◌≡◌, ◌+◌, ◌<◌, ◌≤◌, nat_lt};
-ghost use Rattle.book.specs.Ledger.{Empty, Sound, total, most_accounts, most_assets, most_amount, most_space};
-ghost use Rattle.book.specs.Movement.{Put, Pull, Move};
-ghost use Rattle.book.specs.Faults.{answer_number};
-ghost use Rattle.table.specs.Meaning.{meaning, judged_number, Kept};
+ghost use Rattle.std.specs.Prelude.{◌≡◌, ◌≢◌, ℕ, ◌+◌, ◌<◌, ◌≤◌, IfOk, Ok, Err, if◌then◌else◌, nat_lt};
+ghost use Rattle.book.specs.Ledger.{Sound};
+ghost use Rattle.table.specs.Rows.{ledger};
 
 use book::Book;
 use book::counts::Counts;
@@ -13,7 +11,7 @@ use book::fault::BookFault;
 
 mod rows;
 
-use rows::{ACCOUNTS, Row, balance_in, empty_rows, sum_over, write_balance};
+use rows::{ACCOUNTS, Place, Row, balance_at, empty_rows, raise, write};
 
 // The largest amount of one movement, and the largest sum of an asset over all accounts.
 const MOST_AMOUNT: u64 = 1_000_000_000_000_000;
@@ -21,19 +19,26 @@ const MOST_AMOUNT: u64 = 1_000_000_000_000_000;
 // A book whose space never falls.
 #[derive(Drop)]
 pub struct Table {
-    accounts: u8,
-    assets: u8,
+    counts: Counts,
     rows: [Row; ACCOUNTS],
+    pub ghost sound: { Sound (ledger counts rows) },
 }
 
 impl Table {
+    ghost use Rattle.book.specs.Ledger.{Empty, total, most_amount, most_space};
+    ghost use Rattle.book.specs.Movement.{Pull, Carried, balance_number};
+    ghost use Rattle.book.specs.Faults.{answer_number};
+    ghost use Rattle.book.specs.declared.fault.BookFault.TheVariants.{NoAccount};
+    ghost use Rattle.table.specs.Meaning.{meaning, judged_number, IsPlaceOf};
+
     // An empty table of these counts.
     pub fn new(counts: Counts) -> Table
         ensures empty { Empty counts.accounts counts.assets (meaning result) }
         ensures space { (meaning result).space ≡ most_space }
         ensures good { Sound (meaning result) }
     {
-        Table::empty(counts.accounts(), counts.assets())
+        let rows = empty_rows();
+        Table { counts, rows }
     }
 
     // The smallest table: one account and one asset.
@@ -41,72 +46,73 @@ impl Table {
         ensures empty { Empty 1 1 (meaning result) }
         ensures good { Sound (meaning result) }
     {
-        Table::empty(1, 1)
+        Table::new(Counts::new(1, 1).unwrap())
     }
 
-    fn empty(accounts: u8, assets: u8) -> Table
-        ensures empty { Empty accounts assets (meaning result) }
-        ensures good { 0 < accounts → accounts ≤ most_accounts → 0 < assets → assets ≤ most_assets → Sound (meaning result) }
+    // The row of an account.
+    fn row(&self, account: u8) -> Result<usize, BookFault>
+        ensures { result ≡ (if nat_lt account self.now.counts.accounts then Ok account else Err NoAccount) }
     {
-        let rows = empty_rows();
-        Table {
-            accounts,
-            assets,
-            rows,
+        if account < self.counts.accounts() {
+            Ok(usize::from(account))
+        } else {
+            Err(BookFault::NoAccount)
         }
     }
 
-    // What is wrong with an account, an asset or an amount, looked at in this order.
-    fn judge(&self, account: u8, asset: u8, amount: u64) -> Result<(), BookFault>
-        ensures { answer_number result ≡ judged_number (meaning self.now) account asset amount }
+    // Where an account's balance of an asset stands.
+    fn place(&self, account: u8, asset: u8) -> Result<Place, BookFault>
+        ensures answer { answer_number result ≡ balance_number (meaning self.now) account asset }
+        ensures place { IfOk result (IsPlaceOf (meaning self.now) account asset) }
     {
-        if account >= self.accounts {
-            return Err(BookFault::NoAccount);
+        let account = self.row(account)?;
+        if asset < self.counts.assets() {
+            let asset = usize::from(asset);
+            Ok(Place { account, asset })
+        } else {
+            Err(BookFault::NoAsset)
         }
-        if asset >= self.assets {
-            return Err(BookFault::NoAsset);
+    }
+
+    // The same for a movement of an amount, which is looked at last.
+    fn judge(&self, account: u8, asset: u8, amount: u64) -> Result<Place, BookFault>
+        ensures answer { answer_number result ≡ judged_number (meaning self.now) account asset amount }
+        ensures place { IfOk result (IsPlaceOf (meaning self.now) account asset) }
+    {
+        let place = self.place(account, asset)?;
+        if (1..=MOST_AMOUNT).contains(&amount) {
+            Ok(place)
+        } else {
+            Err(BookFault::BadAmount)
         }
-        if amount == 0 || amount > MOST_AMOUNT {
-            return Err(BookFault::BadAmount);
-        }
-        Ok(())
     }
 
-    // Whether the asset's sum would pass the limit with this amount more.
-    fn too_much(&self, asset: u8, amount: u64) -> bool
-        ensures { Sound (meaning self.now) → result ≡ nat_lt most_amount (total (meaning self.now) asset + amount) }
+    // The sum of a place's asset over all accounts.
+    fn total(&self, place: Place) -> u64
+        ensures { result ≡ total (meaning self.now) place.asset }
     {
-        sum_over(&self.rows, self.accounts, asset).saturating_add(amount) > MOST_AMOUNT
+        let used = &self.rows[..usize::from(self.counts.accounts())];
+        used.iter().map(|row| row.get(place.asset)).sum()
     }
 
-    // Raises a balance.
-    fn credit(&mut self, account: u8, asset: u8, amount: u64)
-        ensures { Kept (Put account asset amount) self.old self.new }
+    // Takes an amount from an account, and answers from which place.
+    fn debit(&mut self, account: u8, asset: u8, amount: u64) -> Result<Place, BookFault>
+        ensures carried { Carried (Pull account asset amount) (meaning self.old) (answer_number result) (meaning self.new) }
+        ensures place { IfOk result (IsPlaceOf (meaning self.old) account asset) }
+        ensures others { (x y : ℕ) → x ≢ account → (meaning self.new).held x y ≡ (meaning self.old).held x y }
+        ensures room { IfOk result (λ from. total (meaning self.new) from.asset + amount ≤ most_amount) }
     {
-        let held = balance_in(&self.rows, account, asset);
-        write_balance(&mut self.rows, account, asset, held.saturating_add(amount));
-    }
-
-    // Lowers a balance.
-    fn debit(&mut self, account: u8, asset: u8, amount: u64)
-        ensures { Kept (Pull account asset amount) self.old self.new }
-    {
-        let held = balance_in(&self.rows, account, asset);
-        write_balance(&mut self.rows, account, asset, held.saturating_sub(amount));
-    }
-
-    // Lowers one balance and raises another.
-    fn carry(&mut self, from: u8, to: u8, asset: u8, amount: u64)
-        ensures { Kept (Move from to asset amount) self.old self.new }
-    {
-        let held = balance_in(&self.rows, from, asset);
-        let there = balance_in(&self.rows, to, asset);
-        write_balance(&mut self.rows, from, asset, held.saturating_sub(amount));
-        write_balance(&mut self.rows, to, asset, there.saturating_add(amount));
+        let from = self.judge(account, asset, amount)?;
+        let held = balance_at(&self.rows, from);
+        let rest = held.checked_sub(amount).ok_or(BookFault::TooLittle)?;
+        write(&mut self.rows, from, rest);
+        Ok(from)
     }
 }
 
 impl Book for Table {
+    ghost use Rattle.table.specs.Meaning.{meaning};
+
     ghost ledger = { meaning };
 
     ghost good = { λ t. Sound (meaning t) };
@@ -114,54 +120,43 @@ impl Book for Table {
     ghost sound = { λ t h. h };
 
     fn accounts(&self) -> u8 {
-        self.accounts
+        self.counts.accounts()
     }
 
     fn assets(&self) -> u8 {
-        self.assets
+        self.counts.assets()
     }
 
     fn space(&self) -> u32 {
-        4_294_967_295
+        u32::MAX
     }
 
     fn balance(&self, account: u8, asset: u8) -> Result<u64, BookFault> {
-        if account >= self.accounts {
-            return Err(BookFault::NoAccount);
-        }
-        if asset >= self.assets {
-            return Err(BookFault::NoAsset);
-        }
-        Ok(balance_in(&self.rows, account, asset))
+        let place = self.place(account, asset)?;
+        Ok(balance_at(&self.rows, place))
     }
 
     fn put(&mut self, account: u8, asset: u8, amount: u64) -> Result<(), BookFault> {
-        self.judge(account, asset, amount)?;
-        if self.too_much(asset, amount) {
+        let place = self.judge(account, asset, amount)?;
+        if amount > MOST_AMOUNT - self.total(place) {
             return Err(BookFault::TooMuch);
         }
-        self.credit(account, asset, amount);
+        raise(&mut self.rows, place, amount);
         Ok(())
     }
 
     fn pull(&mut self, account: u8, asset: u8, amount: u64) -> Result<(), BookFault> {
-        self.judge(account, asset, amount)?;
-        if balance_in(&self.rows, account, asset) < amount {
-            return Err(BookFault::TooLittle);
-        }
-        self.debit(account, asset, amount);
+        self.debit(account, asset, amount)?;
         Ok(())
     }
 
     fn transfer(&mut self, from: u8, to: u8, asset: u8, amount: u64) -> Result<(), BookFault> {
-        if to >= self.accounts || from == to {
+        let account = self.row(to)?;
+        if from == to {
             return Err(BookFault::NoAccount);
         }
-        self.judge(from, asset, amount)?;
-        if balance_in(&self.rows, from, asset) < amount {
-            return Err(BookFault::TooLittle);
-        }
-        self.carry(from, to, asset, amount);
+        let asset = self.debit(from, asset, amount)?.asset;
+        raise(&mut self.rows, Place { account, asset }, amount);
         Ok(())
     }
 }

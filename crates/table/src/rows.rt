@@ -1,7 +1,7 @@
 // The rows of a table: each account's balances.
-ghost use Rattle.std.specs.Prelude.{◌≡◌, ℕ, ◌<◌, min, if◌then◌else◌, nat_eq, slice_index};
-ghost use Rattle.book.specs.Ledger.{sum_to, with_held, most_accounts, most_assets};
-ghost use Rattle.table.specs.Rows.{cell, most_number};
+ghost use Rattle.std.specs.Prelude.{◌≡◌, ℕ, ◌+◌, ◌^◌, ◌<◌, if◌then◌else◌, nat_eq, slice_index};
+ghost use Rattle.book.specs.Ledger.{with_held, most_accounts, most_assets};
+ghost use Rattle.table.specs.Rows.{cell};
 
 pub(crate) const ACCOUNTS: usize = 75;
 
@@ -13,21 +13,28 @@ pub(crate) struct Row {
     cells: [u64; ASSETS],
 }
 
+// Where a balance stands.
+#[derive(Clone, Copy)]
+pub(crate) struct Place {
+    pub(crate) account: usize,
+    pub(crate) asset: usize,
+    ghost has_row: { account < most_accounts },
+    ghost has_cell: { asset < most_assets },
+}
+
 impl Row {
-    fn get(&self, asset: u8) -> u64
+    pub(crate) fn get(&self, asset: usize) -> u64
+        requires { asset < most_assets }
         ensures { result ≡ slice_index self.now.cells asset }
     {
-        let s = usize::from(asset);
-        if s < ASSETS { self.cells[s] } else { 0 }
+        self.cells[asset]
     }
 
-    fn set(&mut self, asset: u8, balance: u64)
-        ensures { asset < most_assets → (y : ℕ) → slice_index self.new.cells y ≡ (if nat_eq y asset then balance else slice_index self.old.cells y) }
+    fn set(&mut self, asset: usize, balance: u64)
+        requires { asset < most_assets }
+        ensures { (y : ℕ) → slice_index self.new.cells y ≡ (if nat_eq y asset then balance else slice_index self.old.cells y) }
     {
-        let s = usize::from(asset);
-        if s < ASSETS {
-            self.cells[s] = balance;
-        }
+        self.cells[asset] = balance;
     }
 }
 
@@ -38,31 +45,25 @@ pub(crate) fn empty_rows() -> [Row; ACCOUNTS]
     [Row { cells: [0; ASSETS] }; ACCOUNTS]
 }
 
-// The balance of an account in an asset: 0 beyond the rows.
-pub(crate) fn balance_in(rows: &[Row; ACCOUNTS], account: u8, asset: u8) -> u64
-    ensures { result ≡ cell rows.now account asset }
+// The balance at a place.
+pub(crate) fn balance_at(rows: &[Row; ACCOUNTS], place: Place) -> u64
+    ensures { result ≡ cell rows.now place.account place.asset }
 {
-    let a = usize::from(account);
-    if a < ACCOUNTS { rows[a].get(asset) } else { 0 }
+    rows[place.account].get(place.asset)
 }
 
-// Writes one balance.
-pub(crate) fn write_balance(rows: &mut [Row; ACCOUNTS], account: u8, asset: u8, balance: u64)
-    ensures { account < most_accounts → asset < most_assets → cell rows.new ≡ with_held (cell rows.old) account asset balance }
+// Writes the balance at a place.
+pub(crate) fn write(rows: &mut [Row; ACCOUNTS], place: Place, balance: u64)
+    ensures { cell rows.new ≡ with_held (cell rows.old) place.account place.asset balance }
 {
-    let a = usize::from(account);
-    if a < ACCOUNTS {
-        rows[a].set(asset, balance);
-    }
+    rows[place.account].set(place.asset, balance);
 }
 
-// The sum of an asset over the first accounts, or the largest number where it is more than that.
-pub(crate) fn sum_over(rows: &[Row; ACCOUNTS], accounts: u8, asset: u8) -> u64
-    ensures { result ≡ min (sum_to accounts (λ a. cell rows.now a asset)) most_number }
+// Adds to the balance at a place.
+pub(crate) fn raise(rows: &mut [Row; ACCOUNTS], place: Place, amount: u64)
+    requires { cell rows.old place.account place.asset + amount < 2 ^ 64 }
+    ensures { cell rows.new ≡ with_held (cell rows.old) place.account place.asset (cell rows.old place.account place.asset + amount) }
 {
-    let mut sum = 0u64;
-    for account in 0..accounts {
-        sum = sum.saturating_add(balance_in(rows, account, asset));
-    }
-    sum
+    let held = balance_at(rows, place);
+    write(rows, place, held + amount);
 }

@@ -1,1 +1,1 @@
-pub mod Trades
+mod Trades

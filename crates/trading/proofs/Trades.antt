@@ -1,56 +1,26 @@
 -- What a house knows of a trade that it has judged, and of its register before it nets one.
-use Rattle.std.proofs.Common.{◌≡◌, ℕ, ◌≤◌, true, false, cond, not, List, [], ◌∷◌, ◌++◌, Err, Result, sym, refl, ap, ◌∙◌, ⊎_elim, arith}
+use Rattle.std.proofs.Common.{◌≡◌, ℕ, true, false, cond, List, [], ◌∷◌, ◌++◌, Err, Result, sym, refl, ap, ◌∙◌, subst, ⊎_elim, arith}
 use Rattle.std.specs.List.{AllByRecursion}
-use Rattle.std.proofs.lemmas.Bool.{cases_Bool, true≢false, and_parts, or_parts, not-false, leb-true, ltb-false, cond-true, cond-false}
+use Rattle.std.proofs.lemmas.Bool.{cases_Bool, true≢false, ltb-false, cond-true, cond-false}
 use Rattle.book.specs.Refusals.{Refusal}
-use Rattle.book.specs.Faults.{from_one_to}
 use Rattle.register.specs.declared.trade.Trade.{Trade}
 use Rattle.register.specs.declared.Register.{Register}
-use Rattle.register.specs.Fits.{Kept, Judged, Room}
-use Rattle.register.specs.Limits.{most_quantity, most_price}
+use Rattle.register.specs.Fits.{AllSized, Room}
 use Rattle.register.specs.Netting.{due_day, trade_filed}
 use Rattle.rules.specs.declared.event.Event.TheVariants.{Novate}
 use Rattle.rules.specs.declared.fault.HouseFault.{HouseFault}
 use Rattle.rules.specs.declared.figures.Figures.{Figures}
 use Rattle.rules.specs.Faults.{accepted, refusal, answer_by, answer_of, is_accepted}
-use Rattle.rules.specs.Limits.{most_members}
 use Rattle.rules.specs.State.{today, with_register}
 use Rattle.rules.specs.Events.{trade_refusals, netting_refusals}
 use Rattle.rules.specs.Fit.{Fit}
 use Rattle.rules.proofs.Fits.{refused_by, none_applies, fit_left}
 use Rattle.trading.specs.Traded.{trade_judged, netting_judged, novate_judged, figures_traded}
 
--- The house keeps of its register what netting leans on.
-pub register_kept : (f : Figures) → Fit f → Kept f.register
-register_kept f fit =
-    let shape = fit.bounds.shape in
-    record {
-      table = record { places = shape.places; few = shape.few_lines };
-      lines = λ i l. let fits = fit.bounds.lines i l in let q = fits.quantity in let m = fits.money in record { quantity = omega arith; money = omega arith };
-    }
-
--- A trade that is sound as such is between members of the house, and within the limits of a trade.
-pub record SoundTrade (t : Trade) : Type 0 where
-  pub buyer : t.buyer ≤ most_members
-  pub seller : t.seller ≤ most_members
-  pub judged : Judged t
-
-within : (most n : ℕ) → not (from_one_to most n) ≡ false → n ≤ most
-within most n e = leb-true _ _ (and_parts _ _ (not-false _ e)).1
-
-pub trade_sound : (f : Figures) (t : Trade) → Fit f → trade_judged f t ≡ accepted → SoundTrade t
-trade_sound f t fit e =
-    let few = fit.bounds.shape.few_members in
-    let a = none_applies (trade_refusals f t []) (ap is_accepted e) in
-    let m = or_parts _ _ a.0 in
-    let n = or_parts _ _ a.1.1.1.0 in
-    let b = within f.size.members t.buyer m.0 in
-    let s = within f.size.members t.seller m.1 in
-    record {
-      buyer = omega arith;
-      seller = omega arith;
-      judged = record { quantity = within most_quantity t.quantity n.0; price = within most_price t.price n.1 };
-    }
+-- The lines of a house are within their limits.
+pub lines_sized : (f : Figures) → Fit f → AllSized f.register
+lines_sized f fit i l =
+    let fits = fit.bounds.lines i l in let q = fits.quantity in let m = fits.money in record { quantity = omega arith; money = omega arith }
 
 -- Where the netting refuses nothing, both sides of the trade have a place.
 pub room_found : (f : Figures) (t : Trade) → netting_judged f t ≡ accepted → Room f.register (due_day (today f)) t
@@ -98,3 +68,19 @@ fit_netted f t e q ok =
 -- The register with a trade that falls due on the due day of today.
 pub due_today : (f : Figures) (t : Trade) (due : ℕ) (g : Register) → due ≡ due_day (today f) → g ≡ trade_filed f.register due t → with_register f g ≡ figures_traded f t
 due_today f t due g e q = ap (with_register f) (q ∙ ap (λ (d : ℕ). trade_filed f.register d t) e)
+
+-- The same places, said of a deal that is the trade, due as one of today.
+pub room_today : (f : Figures) (t : Trade) (g : Register) (d : ℕ) (u : Trade) → g ≡ f.register → d ≡ due_day (today f) → u ≡ t
+    → Room f.register (due_day (today f)) t → Room g d u
+room_today f t g d u eg ed eu room =
+    subst (λ (x : Register). Room x d u) (sym eg)
+    (subst (λ (x : ℕ). Room f.register x u) (sym ed) (subst (λ (x : Trade). Room f.register (due_day (today f)) x) (sym eu) room))
+
+-- The figures h with a trade of today netted into their register g, where they are the figures f.
+pub traded_today : (h f : Figures) (t : Trade) (g : Register) (d : ℕ) (u : Trade) → h ≡ f → d ≡ due_day (today f) → u ≡ t
+    → g ≡ trade_filed h.register d u → with_register h g ≡ figures_traded f t
+traded_today h f t g d u eh ed eu eg =
+    ap (λ (x : Figures). with_register x g) eh
+    ∙ ap (with_register f)
+    (eg ∙ (ap (λ (x : Figures). trade_filed x.register d u) eh
+    ∙ (ap (λ (x : ℕ). trade_filed f.register x u) ed ∙ ap (λ (x : Trade). trade_filed f.register (due_day (today f)) x) eu)))

@@ -1,18 +1,17 @@
 // What a house looks at before it nets a trade.
-ghost use Rattle.std.specs.Prelude.{◌≡◌, ◌≤◌, ◌||◌, nat_lt};
+ghost use Rattle.std.specs.Prelude.{◌≡◌, ◌≤◌, ◌||◌, IfOk, nat_lt};
 ghost use Rattle.register.specs.Fits.{Room};
-ghost use Rattle.register.specs.Limits.{register_places};
+ghost use Rattle.register.specs.Limits.{most_quantity, most_price, register_places};
 ghost use Rattle.register.specs.Netting.{due_day, trade_too_large};
 ghost use Rattle.rules.specs.Events.{position_too_large, register_traded};
-ghost use Rattle.rules.specs.Faults.{accepted, answer_of};
-ghost use Rattle.rules.specs.Fit.{Fit};
-ghost use Rattle.rules.specs.Limits.{most_members};
+ghost use Rattle.rules.specs.Faults.{answer_of};
 ghost use Rattle.rules.specs.State.{today};
 ghost use Rattle.trading.specs.Traded.{trade_judged, netting_judged};
 
-use desk::judging::{bad_price, bad_quantity, no_flag, no_member, no_security};
+use desk::accounts::MemberId;
+use desk::judging::{judge_flag, judge_price, judge_quantity, known_member, known_security};
 use desk::standing::record_of;
-use register::trade::Trade;
+use register::trade::{Deal, Trade};
 use rules::fault::HouseFault;
 use rules::figures::Figures;
 
@@ -22,84 +21,96 @@ const DAYS_TO_DUE: u32 = 3;
 // A party whose position and advances are larger trades no more.
 const MOST_POSITION: u64 = 1_000_000_000_000_000;
 
+// A trade that is sound as such: its parties were looked up, its quantity and its price are within their limits.
+#[derive(Clone, Copy)]
+pub struct Judged {
+    pub trade: Trade,
+    pub buyer: MemberId,
+    pub seller: MemberId,
+    ghost is_buyer: { buyer.number ≡ trade.buyer },
+    ghost is_seller: { seller.number ≡ trade.seller },
+    ghost quantity: { trade.quantity ≤ most_quantity },
+    ghost price: { trade.price ≤ most_price },
+}
+
 // The day on which a trade of today falls due.
 pub fn due_day(f: &Figures) -> u32
-    requires { Fit f.now }
     ensures { result ≡ due_day (today f.now) }
 {
     f.clock.day + DAYS_TO_DUE
 }
 
 // Whether a member's position and advances are so large that it trades no more.
-pub fn position_too_large(f: &Figures, m: u8) -> bool
-    requires fit { Fit f.now }
-    requires known { m ≤ most_members }
-    ensures { result ≡ position_too_large f.now m }
+pub fn position_too_large(f: &Figures, m: MemberId) -> bool
+    ensures { result ≡ position_too_large f.now m.number }
 {
     let record = record_of(f, m);
     record.position.unsigned_abs() + record.advances > MOST_POSITION
 }
 
 // What is wrong with a trade as such.
-pub fn judge_trade(f: &Figures, trade: Trade) -> Result<(), HouseFault>
-    ensures { answer_of result ≡ trade_judged f.now trade }
+pub fn judge_trade(f: &Figures, trade: Trade) -> Result<Judged, HouseFault>
+    ensures answer { answer_of result ≡ trade_judged f.now trade }
+    ensures trade { IfOk result (λ j. j.trade ≡ trade) }
 {
-    if no_member(f, trade.buyer) || no_member(f, trade.seller) {
-        return Err(HouseFault::NoMember);
+    let buyer = known_member(f, trade.buyer)?;
+    let seller = known_member(f, trade.seller)?;
+    known_security(f, trade.security)?;
+    judge_flag(trade.buyer_flag)?;
+    judge_flag(trade.seller_flag)?;
+    judge_quantity(trade.quantity)?;
+    judge_price(trade.price)?;
+    Ok(Judged {
+        trade,
+        buyer,
+        seller,
+    })
+}
+
+// The trade, due as one of today.
+pub(crate) fn deal_today(f: &Figures, judged: Judged) -> Deal
+    ensures due { result.due ≡ due_day (today f.now) }
+    ensures trade { result.trade ≡ judged.trade }
+{
+    Deal {
+        due: due_day(f),
+        trade: judged.trade,
     }
-    if no_security(f, trade.security) {
-        return Err(HouseFault::NoAsset);
-    }
-    if no_flag(trade.buyer_flag) || no_flag(trade.seller_flag) {
-        return Err(HouseFault::NoFlag);
-    }
-    if bad_quantity(trade.quantity) || bad_price(trade.price) {
-        return Err(HouseFault::BadAmount);
-    }
-    Ok(())
 }
 
 // Whether there is no place for the lines of a trade of today.
 fn lacks_place(f: &Figures, trade: Trade) -> bool
-    requires { Fit f.now }
     ensures { result ≡ nat_lt register_places (register_traded f.now trade).count }
 {
     f.register.lacks_place(due_day(f), trade)
 }
 
 // Whether a trade of today would make a line too large.
-fn line_too_large(f: &Figures, trade: Trade) -> bool
-    requires fit { Fit f.now }
-    requires trade { trade_judged f.now trade ≡ accepted }
-    requires room { Room f.now.register (due_day (today f.now)) trade }
-    ensures { result ≡ trade_too_large f.now.register (due_day (today f.now)) trade }
+fn line_too_large(f: &Figures, judged: Judged) -> bool
+    requires { Room f.now.register (due_day (today f.now)) judged.trade }
+    ensures { result ≡ trade_too_large f.now.register (due_day (today f.now)) judged.trade }
 {
-    f.register.trade_too_large(due_day(f), trade)
+    f.register.trade_too_large(deal_today(f, judged))
 }
 
 // Whether the position of one of its parties is too large.
-fn party_too_large(f: &Figures, trade: Trade) -> bool
-    requires fit { Fit f.now }
-    requires buyer { trade.buyer ≤ most_members }
-    requires seller { trade.seller ≤ most_members }
-    ensures { result ≡ (position_too_large f.now trade.buyer || position_too_large f.now trade.seller) }
+fn party_too_large(f: &Figures, judged: Judged) -> bool
+    ensures { result ≡ (position_too_large f.now judged.trade.buyer || position_too_large f.now judged.trade.seller) }
 {
-    position_too_large(f, trade.buyer) || position_too_large(f, trade.seller)
+    position_too_large(f, judged.buyer) || position_too_large(f, judged.seller)
 }
 
 // Whether a trade that is sound as such finds no place, or makes a line or finds a position too large.
-pub fn judge_netting(f: &Figures, trade: Trade) -> Result<(), HouseFault>
-    requires fit { Fit f.now }
-    requires trade { trade_judged f.now trade ≡ accepted }
-    ensures { answer_of result ≡ netting_judged f.now trade }
+pub fn judge_netting(f: &Figures, judged: Judged) -> Result<(), HouseFault>
+    ensures { answer_of result ≡ netting_judged f.now judged.trade }
 {
-    if lacks_place(f, trade) {
+    if lacks_place(f, judged.trade) {
         return Err(HouseFault::NoPlace);
     }
-    if line_too_large(f, trade) {
+    if line_too_large(f, judged) {
         return Err(HouseFault::LineTooLarge);
     }
-    if party_too_large(f, trade) {
+    if party_too_large(f, judged) {
         return Err(HouseFault::PositionTooLarge);
     }
     Ok(())

@@ -1,6 +1,7 @@
-ghost use Rattle.std.specs.Prelude.{◌≡◌, ◌≤◌, true, [], ◌∷◌, length, is_ok, MatchOption};
-ghost use Rattle.feed.specs.Coming.{coming, placed, GoesOn};
-ghost use Rattle.feed.specs.Format.{accepted, list_from, entries_from, entries as entries_of};
+ghost use Rattle.std.specs.Prelude.{◌≡◌, ◌<◌, ◌^◌, true, [], ◌∷◌, length, MatchOption};
+ghost use Rattle.std.specs.Iterator.{YieldsFirstBy, item_count};
+ghost use Rattle.feed.specs.Coming.{coming, placed};
+ghost use Rattle.feed.specs.Format.{accepted, entries as entries_of};
 
 use crate::entries::Entries;
 use crate::entry::Item;
@@ -10,49 +11,40 @@ impl<'a> Entries<'a> {
     /// All entries: the first stands after the mark and the version.
     pub(crate) fn after_head(bytes: &'a [u8]) -> Entries<'a>
         requires { accepted bytes.now ≡ true }
-        ensures { coming result ≡ entries_of bytes.now }
+        ensures all { coming result ≡ entries_of bytes.now }
+        ensures bound { length (coming result) < 2 ^ 64 }
     {
         let mut reader = Reader::at(bytes, 0);
-        match reader.head() {
-            Ok(()) => Entries {
-                bytes,
-                place: reader.place(),
-            },
-            Err(_) => unreachable(),
-        }
+        let Ok(()) = reader.head() else {
+            unreachable!()
+        };
+        Entries { reader }
     }
 
-    /// The next entry with its place, or none where the feed ends. It cannot refuse.
-    pub fn next(&mut self) -> Option<Item<'a>>
-        ensures { MatchOption result ((coming self.old ≡ []) × (coming self.new ≡ [])) (λ x. coming self.old ≡ placed x ∷ coming self.new) }
+    /// The next entry with its place, and the entries after it, or none where the feed ends. It cannot refuse.
+    fn split_first(&self) -> Option<(Item<'a>, Entries<'a>)>
+        ensures { MatchOption result (coming self.now ≡ []) (λ t. coming self.now ≡ placed t.0 ∷ coming t.1) }
     {
-        let turn = turn_at(self.bytes, self.place)?;
-        self.place = turn.after;
-        Some(turn.item)
+        let place = self.reader.place();
+        let mut reader = self.reader;
+        let Ok(next) = reader.entry() else {
+            unreachable!()
+        };
+        let entry = next?;
+        Some((Item { place, entry }, Entries { reader }))
     }
 }
 
-/// An entry, and the place where what follows it begins.
-#[derive(Clone, Copy)]
-struct Turn<'a> {
-    item: Item<'a>,
-    after: usize,
-}
+impl<'a> Iterator for Entries<'a> {
+    type Item = Item<'a>;
 
-/// The entry at a place of accepted bytes, or none where the feed ends.
-fn turn_at<'a>(bytes: &'a [u8], place: usize) -> Option<Turn<'a>>
-    requires within { place ≤ length bytes.now }
-    requires good { is_ok (list_from bytes.now place) ≡ true }
-    ensures { MatchOption result (entries_from bytes.now place ≡ []) (λ t. GoesOn bytes.now place t.item t.after) }
-{
-    let mut reader = Reader::at(bytes, place);
-    let next = match reader.entry() {
-        Ok(next) => next,
-        Err(_) => unreachable(),
-    };
-    let entry = next?;
-    Some(Turn {
-        item: Item { place, entry },
-        after: reader.place(),
-    })
+    ghost next_gives = { YieldsFirstBy placed coming };
+
+    ghost remaining = { item_count coming };
+
+    fn next(&mut self) -> Option<Item<'a>> {
+        let (item, rest) = self.split_first()?;
+        *self = rest;
+        Some(item)
+    }
 }

@@ -1,5 +1,5 @@
 ghost use Rattle.std.specs.Prelude.{◌≡◌, ◌+◌, ◌-◌, ◌<◌, ◌≤◌, length, IfOk, OnOk};
-ghost use Rattle.feed.specs.Readings.{field as field_of, number};
+ghost use Rattle.feed.specs.Readings.{field as field_of, number, high_first};
 ghost use Rattle.feed.specs.Format.{head as head_of, flag as flag_of, reference as reference_of, trade_fields as trade_of, close_fields as close_of, entry as entry_of, end as end_of};
 ghost use Rattle.feed.specs.Shown.{told_if_any};
 ghost use Rattle.feed.specs.Steps.{Step, itself, held};
@@ -30,56 +30,34 @@ impl<'a> Reader<'a> {
         ensures step { Step held (field_of n) self.old self.new result }
         ensures whole { IfOk result (λ s. length s.now ≡ n) }
     {
-        let from = self.place;
-        if self.bytes.len() - from < n {
-            return Err(FeedFault::CutShort);
-        }
-        self.place = from + n;
-        Ok(&self.bytes[from..from + n])
+        let part = self.bytes[self.place..]
+            .get(..n)
+            .ok_or(FeedFault::CutShort)?;
+        self.place += n;
+        Ok(part)
     }
 
-    /// A number of 8 bits.
-    fn byte(&mut self) -> Result<u8, FeedFault>
-        ensures { Step itself (number 1) self.old self.new result }
+    /// A field of N bytes, as its bytes and as the number that they spell, high byte first.
+    fn fixed<const N: usize>(&mut self) -> Result<[u8; N], FeedFault>
+        ensures bytes { Step itself (field_of N) self.old self.new result }
+        ensures spelled { Step (high_first N) (number N) self.old self.new result }
     {
-        let b = self.field(1)?;
-        Ok(b[0])
-    }
-
-    /// A number of 16 bits.
-    fn half(&mut self) -> Result<u16, FeedFault>
-        ensures { Step itself (number 2) self.old self.new result }
-    {
-        let b = self.field(2)?;
-        Ok(u16::from_be_bytes([b[0], b[1]]))
-    }
-
-    /// A number of 32 bits.
-    fn word(&mut self) -> Result<u32, FeedFault>
-        ensures { Step itself (number 4) self.old self.new result }
-    {
-        let b = self.field(4)?;
-        Ok(u32::from_be_bytes([b[0], b[1], b[2], b[3]]))
+        let bytes = self.field(N)?;
+        Ok(*bytes.as_array().unwrap())
     }
 
     fn flag(&mut self) -> Result<Flag, FeedFault>
         ensures { Step itself flag_of self.old self.new result }
     {
         let letters = self.field(2)?;
-        match (letters[0] as char, letters[1] as char) {
-            ('L', 'P') => Ok(Flag::LocalPrincipal),
-            ('L', 'C') => Ok(Flag::LocalClient),
-            ('F', 'P') => Ok(Flag::ForeignPrincipal),
-            ('F', 'C') => Ok(Flag::ForeignClient),
-            _ => Err(FeedFault::FlagLetters),
-        }
+        Flag::try_from(letters).or(Err(FeedFault::FlagLetters))
     }
 
     /// The length of a reference, and the reference.
     fn reference(&mut self) -> Result<&'a [u8], FeedFault>
         ensures { Step held reference_of self.old self.new result }
     {
-        let length = self.byte()? as usize;
+        let length = u8::from_be_bytes(self.fixed()?) as usize;
         if length < 1 || length > MOST_REFERENCE {
             return Err(FeedFault::Length);
         }
@@ -91,13 +69,13 @@ impl<'a> Reader<'a> {
         ensures { Step told_if_any trade_of self.old self.new result }
     {
         let reference = self.reference()?;
-        let buyer = self.byte()?;
+        let buyer = u8::from_be_bytes(self.fixed()?);
         let buyer_flag = self.flag()?;
-        let seller = self.byte()?;
+        let seller = u8::from_be_bytes(self.fixed()?);
         let seller_flag = self.flag()?;
-        let security = self.byte()?;
-        let quantity = self.word()?;
-        let price = self.word()?;
+        let security = u8::from_be_bytes(self.fixed()?);
+        let quantity = u32::from_be_bytes(self.fixed()?);
+        let price = u32::from_be_bytes(self.fixed()?);
         Ok(Some(Entry::Trade {
             reference,
             buyer,
@@ -114,8 +92,8 @@ impl<'a> Reader<'a> {
     fn close(&mut self) -> Result<Option<Entry<'a>>, FeedFault>
         ensures { Step told_if_any close_of self.old self.new result }
     {
-        let security = self.byte()?;
-        let price = self.word()?;
+        let security = u8::from_be_bytes(self.fixed()?);
+        let price = u32::from_be_bytes(self.fixed()?);
         Ok(Some(Entry::Close { security, price }))
     }
 
@@ -124,10 +102,10 @@ impl<'a> Reader<'a> {
         ensures step { Step told_if_any entry_of self.old self.new result }
         ensures on { OnOk result (self.old.place < self.new.place) }
     {
-        match self.byte()? as char {
-            'T' => self.trade(),
-            'C' => self.close(),
-            'Z' => Ok(None),
+        match &self.fixed()? {
+            b"T" => self.trade(),
+            b"C" => self.close(),
+            b"Z" => Ok(None),
             _ => Err(FeedFault::Kind),
         }
     }
@@ -136,12 +114,10 @@ impl<'a> Reader<'a> {
     pub(crate) fn head(&mut self) -> Result<(), FeedFault>
         ensures { Step itself head_of self.old self.new result }
     {
-        let mark = self.field(3)?;
-        if mark[0] != b'T' || mark[1] != b'R' || mark[2] != b'F' {
+        if self.fixed()? != *b"TRF" {
             return Err(FeedFault::Mark);
         }
-        let version = self.half()?;
-        if version != 1 {
+        if u16::from_be_bytes(self.fixed()?) != 1 {
             return Err(FeedFault::Version);
         }
         Ok(())

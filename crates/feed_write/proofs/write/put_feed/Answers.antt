@@ -1,22 +1,12 @@
-use Rattle.std.proofs.Common.{◌+◌, [], ◌∷◌, map, length, drop, Ok, sym, ap, ◌∙◌, subst, arith}
+use Rattle.std.proofs.Common.{◌+◌, ◌∷◌, [], map, length, drop, sym, ap, ◌∙◌, subst, arith}
 use Rattle.std.specs.List.{All, flat_map}
 use Rattle.std.proofs.lemmas.List.{take_all}
 use Rattle.feed.specs.Shown.{told}
 use Rattle.feed_write.specs.Written.{bytes, feed_end, list_end, Wrote, WellFormed}
-use Rattle.feed_write.proofs.Ends.{some_end, left_end, begins_within, fitted_at, next_at, last_room}
+use Rattle.feed_write.proofs.Ends.{some_end, left_end, begins_within, next_at, last_room}
 use Rattle.feed_write.proofs.Feeds.{joined_next, formed_next, reads_back}
 use Rattle.feed_write.proofs.Overs.{wrote_more}
 use Rattle.feed_write.proofs.write.put_feed.Goals as goal
-
-pub put_entry-place-requires : goal.put_entry-place-requires
-put_entry-place-requires c =
-    let es = c.args.entries.now in
-    let i = c.loop-entry.entry-index in
-    let room = length c.put-place.new.out in
-    let g = some_end (feed_end (length c.args.out.now) (map told es)) c.requires in
-    let left = left_end (length c.args.out.now) room g.0 c.put-place.result c.loop-entry.place i es g.1 (omega arith) c.put-place.ensures.ends c.loop-entry.invariant.1 in
-    let f = fitted_at room c.loop-entry.place es i _ _ c.loop-entry-test.true left in
-    record { sound = f.soundly; room = omega (arith, f.room_for) }
 
 pub loop-entry-preserved : goal.loop-entry-preserved
 loop-entry-preserved c =
@@ -34,18 +24,8 @@ loop-entry-preserved c =
       formed_next es i _ c.loop-entry-test.true c.loop-entry.invariant.2 c.put_entry-place.ensures.formed,
     )
 
-pub put-requires : goal.put-requires
-put-requires c =
-    let es = c.args.entries.now in
-    let i = c.loop-entry.entry-index in
-    let room = length c.put-place.new.out in
-    let g = some_end (feed_end (length c.args.out.now) (map told es)) c.requires in
-    let left = left_end (length c.args.out.now) room g.0 c.put-place.result c.loop-entry.place i es g.1 (omega arith) c.put-place.ensures.ends c.loop-entry.invariant.1 in
-    let r = last_room room c.loop-entry.place es i _ c.loop-entry-test.false left in
-    omega (arith, r.1)
-
-pub returns : goal.returns
-returns c =
+pub returns-clause-wrote : goal.returns-clause-wrote
+returns-clause-wrote c =
     let es = c.args.entries.now in
     let i = c.loop-entry.entry-index in
     let xs = c.args.out.now in
@@ -56,10 +36,11 @@ returns c =
     let every = take_all i es c.loop-entry-test.false in
     let w₁ = subst (λ ts. Wrote c.put-place.new.out c.put-place.result (flat_map bytes (map told ts)) c.loop-entry.out c.loop-entry.place) every c.loop-entry.invariant.0 in
     let w₂ = wrote_more xs 0 _ _ _ (flat_map bytes (map told es)) _ _ c.put-place.ensures w₁ (omega (arith, c.put-place.ensures.ends, r.1)) in
-    let w₃ = wrote_more xs 0 _ _ _ (90 ∷ []) _ _ w₂ c.put.ensures (omega (arith, r.1)) in
+    wrote_more xs 0 _ _ _ (90 ∷ []) _ _ w₂ c.put.ensures (omega (arith, r.1))
+
+pub returns-clause-read : goal.returns-clause-read
+returns-clause-read c =
+    let es = c.args.entries.now in
+    let every = take_all c.loop-entry.entry-index es c.loop-entry-test.false in
     let formed = subst (λ ts. All WellFormed (map told ts)) every c.loop-entry.invariant.2 in
-    record {
-      value = ap Ok (c.put.ensures.ends ∙ sym r.0) ∙ g.1;
-      wrote = w₃;
-      read = reads_back xs c.put.new.out c.put.result (map told es) w₃ formed;
-    }
+    reads_back c.args.out.now c.put.new.out c.put.result (map told es) (returns-clause-wrote c) formed

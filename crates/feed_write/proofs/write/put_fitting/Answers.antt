@@ -6,14 +6,8 @@ use Rattle.feed_write.proofs.Ends.{some_end, fitted}
 use Rattle.feed_write.proofs.Overs.{wrote_stands}
 use Rattle.feed_write.proofs.write.put_fitting.Goals as goal
 
-pub put_entry-requires : goal.put_entry-requires
-put_entry-requires c =
-    let g = some_end (entry_end (length c.args.out.now) c.args.place (told c.args.entry.now)) c.requires in
-    let f = fitted (length c.args.out.now) c.args.place (told c.args.entry.now) g.0 g.1 in
-    record { sound = f.soundly; room = f.room_for }
-
-pub returns : goal.returns
-returns c =
+pub returns-clause-read : goal.returns-clause-read
+returns-clause-read c =
     let xs = c.args.out.now in
     let p = c.args.place in
     let e = told c.args.entry.now in
@@ -21,8 +15,4 @@ returns c =
     let f = fitted (length xs) p e g.0 g.1 in
     let w = c.put_entry.ensures.wrote in
     let s = wrote_stands xs p (bytes e) c.put_entry.new.out c.put_entry.result w (omega (arith, f.room_for)) in
-    record {
-      value = ap Ok (w.ends ∙ sym f.ends) ∙ g.1;
-      wrote = w;
-      read = entry_reads c.put_entry.new.out p e c.put_entry.ensures.formed s ∙ ap (λ q. Ok (Some e, q)) (sym w.ends);
-    }
+    entry_reads c.put_entry.new.out p e c.put_entry.ensures.formed s ∙ ap (λ q. Ok (Some e, q)) (sym w.ends)

@@ -1,21 +1,24 @@
-use Rattle.std.proofs.Common.{◌+◌, ltb, ap, ◌∙◌, rules}
+use Rattle.std.proofs.Common.{◌+◌, nat_lt, ap, ◌∙◌, subst, rules}
 use Rattle.rank.specs.declared.key.Key.{Key}
+use Rattle.register.specs.declared.Register.{Register}
 use Rattle.register.specs.Limits.{register_places}
 use Rattle.register.specs.Netting.{buyer_key}
 use Rattle.register.specs.Sides.{new_lines}
+use Rattle.register.proofs.Tables.{Tabled, tabled}
 use Rattle.register.proofs.Trades.{new_few, count_lacks}
 use Rattle.register.proofs.Register.count_after.Goals as goal
 
 pub overflow_add-result : goal.overflow_add-result
 overflow_add-result c =
-    let a = new_few c.args.self.now c.buyer_key.result c.seller_key.result in
-    let b = c.requires.few in
+    let a = new_few c.args.self.now c.key.result c.key-2.result in
     search rules
 
 pub returns : goal.returns
 returns c =
     let g = c.args.self.now in
-    ap (λ n. ltb register_places (g.count + n)) c.new_lines.ensures
-    ∙ (ap (λ (k : Key). ltb register_places (g.count + new_lines g k c.seller_key.result)) c.buyer_key.ensures
-    ∙ (ap (λ (k : Key). ltb register_places (g.count + new_lines g (buyer_key c.args.due c.args.trade) k)) c.seller_key.ensures
-    ∙ count_lacks g c.args.due c.args.trade c.requires))
+    let table = subst Tabled c.self.view_is (tabled c.self.inside.lines.items c.self.invariant) in
+    ap (λ n. nat_lt register_places (c.len.result + n)) c.new_lines.ensures
+    ∙ (ap (λ n. nat_lt register_places (n + new_lines g c.key.result c.key-2.result)) (c.len.ensures.value ∙ ap (λ (h : Register). h.count) c.self.view_is)
+    ∙ (ap (λ (k : Key). nat_lt register_places (g.count + new_lines g k c.key-2.result)) c.key.ensures
+    ∙ (ap (λ (k : Key). nat_lt register_places (g.count + new_lines g (buyer_key c.args.due c.args.trade) k)) c.key-2.ensures
+    ∙ count_lacks g c.args.due c.args.trade table)))

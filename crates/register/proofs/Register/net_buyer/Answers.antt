@@ -2,19 +2,22 @@ use Rattle.std.proofs.Common.{sym, subst}
 use Rattle.register.specs.declared.Register.{Register}
 use Rattle.register.specs.Netting.{seller_key}
 use Rattle.register.specs.Fits.{Nettable}
+use Rattle.register.proofs.Tables.{Tabled, tabled}
 use Rattle.register.proofs.Trades.{half_from, buyer_nettable, seller_nettable}
 use Rattle.register.proofs.Register.net_buyer.Goals as goal
 
-pub buy-requires : goal.buy-requires
-buy-requires c =
+pub net_side-requires : goal.net_side-requires
+net_side-requires c =
     let g = c.args.self.now in
-    let n = buyer_nettable g c.args.due c.args.trade c.requires.register.table c.requires.room c.requires.register.lines c.requires.trade in
-    record { line = subst (Nettable g) (sym c.buyer_key.ensures) n; trade = c.requires.trade }
+    let d = c.args.deal in
+    let table = subst Tabled c.self.view_is (tabled c.self.inside.lines.items c.self.invariant) in
+    subst (Nettable g) (sym c.key.ensures) (buyer_nettable g d.due d.trade table c.requires.room c.requires.lines d.quantity d.price)
 
 pub returns : goal.returns
 returns c =
     let g = c.args.self.now in
-    let t = c.args.trade in
-    let e = half_from g c.args.due t c.buy.new.self c.buyer_key.result c.buyer_key.ensures c.buy.ensures in
-    let n = seller_nettable g c.args.due t c.requires.register.table c.requires.room c.requires.register.lines c.requires.trade in
-    record { filed = e; next = subst (λ (h : Register). Nettable h (seller_key c.args.due t)) (sym e) n }
+    let d = c.args.deal in
+    let table = subst Tabled c.self.view_is (tabled c.self.inside.lines.items c.self.invariant) in
+    let e = half_from g d.due d.trade c.net_side.new.self c.key.result c.key.ensures c.net_side.ensures in
+    let n = seller_nettable g d.due d.trade table c.requires.room c.requires.lines d.quantity d.price in
+    record { filed = e; next = subst (λ (h : Register). Nettable h (seller_key d.due d.trade)) (sym e) n }

@@ -1,10 +1,14 @@
-use Rattle.std.proofs.Common.{sym, add-one, arith}
-use Rattle.register.proofs.KeyPlaces.{place_at, place_not_at}
+use Rattle.std.proofs.Common.{ap, ◌∙◌}
+use Rattle.register.specs.declared.Register.{Register}
+use Rattle.std.proofs.Common.{position, if◌then◌else◌, Some, None}
+use Rattle.register.specs.declared.line.Line.{Line}
+use Rattle.register.specs.Netting.{same_key, known, place_of}
+use Rattle.register.proofs.Listed.{position_listed}
 use Rattle.register.proofs.Register.place.Goals as goal
 
-pub returns-then-has_at : goal.returns-then-has_at
-returns-then-has_at c =
-    sym (place_at c.args.self.now c.args.key c.loop-i.i c.loop-i.invariant (cc) (omega arith))
-
-pub loop-i-preserved : goal.loop-i-preserved
-loop-i-preserved c = rw add-one (place_not_at c.args.self.now c.args.key c.loop-i.i c.loop-i.invariant (cc))
+pub returns : goal.returns
+returns c =
+    c.position_of.ensures
+    ∙ (ap (position (λ (l : Line). same_key l.claim.key c.args.key)) c.deref.ensures.0
+    ∙ (position_listed c.self.inside.lines.items c.args.key
+    ∙ ap (λ (g : Register). if known g c.args.key then Some (place_of g c.args.key) else None) c.self.view_is))

@@ -1,10 +1,10 @@
-use Rattle.std.proofs.Common.{refl, ◌∙◌}
-use Rattle.std.proofs.lemmas.Slice.{pushed}
-use Rattle.statement.proofs.Rowing.{one_more_from_none}
+use Rattle.std.proofs.Common.{◌≡◌, ◌-◌, ap, rules, arith, string_bytes}
+use Rattle.statement.specs.Rows.{row_text}
+use Rattle.statement.proofs.Rowing.{made_as}
 use Rattle.statement.proofs.account.balances.Goals as goal
 
-pub loop-asset-preserved : goal.loop-asset-preserved
-loop-asset-preserved g c good =
-    pushed c.as_str.result.now refl c.in_ok-push_str.was c.push_str.ensures.bytes
-    ∙ one_more_from_none ((g.B.Book.ledger c.args.book.now).held c.args.account) c.loop-asset.asset c.holds-held.result _ _
-    (c.holds-held.ensures good) (c.loop-asset.invariant good) (c.as_str.ensures.value ∙ c.in_ok-word.ensures.ok)
+pub returns : goal.returns
+returns g c good =
+    let all : c.assets.result - 0 ≡ (g.B.Book.ledger c.args.book.now).assets = omega (arith, c.assets.ensures) in
+    let a = (g.B.Book.ledger c.args.book.now).held c.args.account in
+    made_as string_bytes c.row.result _ _ (c.row.ensures a (λ place n q. search rules)) (ap (row_text a 0) all)

@@ -1,22 +1,22 @@
-use Rattle.std.proofs.Common.{sym, subst}
-use Rattle.register.specs.Fits.{Room}
+use Rattle.std.proofs.Common.{sym, ap, subst}
+use Rattle.rules.specs.declared.figures.Figures.{Figures}
 use Rattle.rules.specs.Fit.{Fit}
-use Rattle.trading.proofs.Trades.{register_kept, trade_sound, room_found, fit_netted, due_today}
+use Rattle.trading.proofs.Trades.{lines_sized, room_found, room_today, fit_netted, traded_today}
 use Rattle.trading.proofs.netting.net.Goals as goal
 
 pub net-requires : goal.net-requires
-net-requires c =
-    let f = c.args.f.now in
-    let t = c.args.trade in
-    record {
-      register = register_kept f c.requires.fit;
-      trade = (trade_sound f t c.requires.fit c.requires.trade).judged;
-      room = subst (λ d. Room f.register d t) (sym c.due_day-due.ensures) (room_found f t c.requires.netting);
-    }
+net-requires c = record {
+  lines = lines_sized _ c.f.invariant;
+  room = room_today c.args.f.now c.args.judged.trade _ _ _ (ap (λ (f : Figures). f.register) c.f.view_is) c.deal_today-deal.ensures.due c.deal_today-deal.ensures.trade
+      (room_found c.args.f.now c.args.judged.trade c.requires.netting);
+}
 
 pub returns : goal.returns
 returns c =
-    let f = c.args.f.now in
-    let t = c.args.trade in
-    let traded = due_today f t c.due_day-due.result c.net.new.self c.due_day-due.ensures c.net.ensures in
-    record { figures = traded; fit = subst Fit (sym traded) (fit_netted f t c.requires.trade c.requires.netting c.requires.fit) }
+    traded_today _ c.args.f.now c.args.judged.trade _ _ _ c.f.view_is c.deal_today-deal.ensures.due c.deal_today-deal.ensures.trade c.net.ensures
+
+pub invariant_of-f : goal.invariant_of-f
+invariant_of-f c =
+    subst Fit
+    (sym (traded_today _ c.args.f.now c.args.judged.trade _ _ _ c.f.view_is c.deal_today-deal.ensures.due c.deal_today-deal.ensures.trade c.net.ensures))
+    (fit_netted c.args.f.now c.args.judged.trade c.requires.trade c.requires.netting (subst Fit c.f.view_is c.f.invariant))

@@ -1,4 +1,0 @@
-use Rattle.house.proofs.house.House.open.Goals as goal
-
-pub invariant_of-result : goal.invariant_of-result
-invariant_of-result g c = record { fit = ∣ c.begin-refusal.ensures.fit ∣₁ }
