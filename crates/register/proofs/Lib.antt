@@ -1,5 +1,5 @@
-mod Tables
 pub mod KeyPlaces
 pub mod Trades
 mod Listed
 mod Flags
+pub mod Packing

@@ -12,8 +12,7 @@ use Rattle.register.specs.Limits.{most_quantity, most_price, most_money, registe
 use Rattle.register.specs.Lines.{line, blank}
 use Rattle.register.specs.Netting.{same_key, place_of, known, line_of, bought, sold, filed, buyer_key, seller_key, buyer_filed, trade_filed, too_large, trade_too_large}
 use Rattle.register.specs.Sides.{sides_netted, one_unless, new_lines}
-use Rattle.register.specs.Fits.{Sized, AllSized, Nettable, Room}
-use Rattle.register.proofs.Tables.{Tabled}
+use Rattle.register.specs.Fits.{Tabled, Sized, AllSized, Nettable, Room}
 use Rattle.register.proofs.KeyPlaces.{at_filed, place_own, same_keys, same_key_self, place_most, key_line_of, count_filed, place_filed, known_filed, line_of_filed}
 
 -- A sum that one trade lowers.

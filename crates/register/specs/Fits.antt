@@ -1,5 +1,5 @@
 -- What the netting of a trade leans on: sums that stay within their types, and a place for each line.
-use Rattle.std.specs.Prelude.{ℕ, ◌*◌, ◌<◌, ◌≤◌, unsigned_abs}
+use Rattle.std.specs.Prelude.{◌≡◌, ℕ, ◌*◌, ◌<◌, ◌≤◌, length, unsigned_abs}
 use Rattle.rank.specs.declared.key.Key.{Key}
 use Rattle.register.specs.declared.line.Line.{Line}
 use Rattle.register.specs.declared.trade.Trade.{Trade}
@@ -7,6 +7,11 @@ use Rattle.register.specs.declared.Register.{Register}
 use Rattle.register.specs.Limits.{most_quantity, most_money, register_places}
 use Rattle.register.specs.Lines.{line}
 use Rattle.register.specs.Netting.{place_of, line_of, trade_filed}
+
+-- All places are there, and no more lines than places: every place of a line can be read and written.
+pub record Tabled (g : Register) : Type 0 where
+  pub places : length g.lines ≡ register_places
+  pub few : g.count ≤ register_places
 
 -- The netted quantity and money of a line are at most so many times their limits: one more side of a trade stays within 64 bits.
 pub record Sized (n : ℕ) (l : Line) : Type 0 where

@@ -1,5 +1,7 @@
 // Lines asked for by key, and listed by rising key.
-ghost use Rattle.std.specs.Prelude.{◌≡◌, if◌then◌else◌, Some, None, position};
+ghost use Rattle.std.specs.Prelude.{◌≡◌, ◌<◌, if◌then◌else◌, Some, None, position};
+ghost use Rattle.std.specs.Option.{ForSome};
+ghost use Rattle.register.specs.Limits.{register_places};
 ghost use Rattle.register.specs.Netting.{same_key, known, line_of, place_of};
 ghost use Rattle.register.specs.Asking.{line_asked, line_from};
 ghost use Rattle.register.specs.Nearest.{nearer, nearest};
@@ -8,11 +10,18 @@ use crate::Register;
 use crate::line::Line;
 use rank::key::Key;
 
+// Whether two keys are one.
+pub(crate) fn same_key(j: Key, k: Key) -> bool
+    ensures { result ≡ same_key j k }
+{
+    j == k
+}
+
 // The place of the first line that has a key.
 fn position_of(lines: &[Line], key: Key) -> Option<usize>
     ensures { result ≡ position (λ l. same_key l.claim.key key) lines.now }
 {
-    lines.iter().position(|line| line.claim.key == key)
+    lines.iter().position(|line| same_key(line.claim.key, key))
 }
 
 // The nearer of two lines whose keys have a number from a number on: the one with the smaller number, and of two with the
@@ -40,9 +49,10 @@ fn nearest(lines: &[Line], number: u64) -> Option<Line>
 impl Register {
     // The place of the line that has the key, if there is one.
     pub fn place(&self, key: Key) -> Option<usize>
-        ensures { result ≡ (if known self.now key then Some (place_of self.now key) else None) }
+        ensures place { result ≡ (if known self.now key then Some (place_of self.now key) else None) }
+        ensures within { ForSome result (λ i. i < register_places) }
     {
-        position_of(&self.lines, key)
+        position_of(self.lines(), key)
     }
 
     // Whether a line has the key.
@@ -56,14 +66,18 @@ impl Register {
     pub fn find(&self, key: Key) -> Option<Line>
         ensures { result ≡ line_asked self.now key }
     {
-        self.place(key).map(|place| self.lines[place])
+        let place = self.place(key)?;
+        Some(self.lines[place])
     }
 
     // The line that has the key; of an unknown key a line without any trade.
     pub fn line_or_blank(&self, key: Key) -> Line
         ensures { result ≡ line_of self.now key }
     {
-        self.find(key).unwrap_or(Line::blank(key))
+        match self.place(key) {
+            Some(place) => self.lines[place],
+            None => Line::blank(key),
+        }
     }
 
     // The line whose key has the smallest number from a number on.
@@ -71,6 +85,6 @@ impl Register {
     pub fn line_from(&self, number: u64) -> Option<Line>
         ensures { result ≡ line_from self.now number }
     {
-        nearest(&self.lines, number)
+        nearest(self.lines(), number)
     }
 }

@@ -1,9 +1,10 @@
 // The register of lines: a line found by its key, trades netted, lines listed by rising key, finished lines dropped.
 #![tactic(auto)]
 
-ghost use Rattle.std.specs.Prelude.{◌≡◌, []};
+ghost use Rattle.std.specs.Prelude.{◌≡◌, [], take};
 ghost use Rattle.register.specs.Asking.{free_in};
 ghost use Rattle.register.specs.Dropping.{register_of};
+ghost use Rattle.register.specs.Fits.{Tabled};
 
 mod asking;
 mod dropping;
@@ -13,31 +14,31 @@ mod netting;
 mod tests;
 pub mod trade;
 
-use arrayvec::ArrayVec;
 use line::Line;
 use std::marker::Model;
 
 pub const PLACES: usize = 512;
 
-// The lines of the house, in the order in which they were opened. Their places lie in the register itself.
-#[derive(Drop)]
+// The lines of the house, in the order in which they were opened: the first `count` places. They lie in the register itself,
+// beside their count and in no vector, so that a register can be copied.
+#[derive(Clone, Copy)]
 pub struct Register {
-    lines: ArrayVec<Line, PLACES>,
+    count: usize,
+    lines: [Line; PLACES],
 }
 
 impl Model for Register {
-    ghost use Rattle.std.specs.Prelude.{◌≤◌};
-    ghost use Rattle.arrayvec.specs.ArrayVec.{array_vec_len};
-    ghost use Rattle.register.specs.Limits.{register_places};
     ghost use Rattle.register.specs.Places.{Places};
 
     ghost Value = { Places };
 
-    ghost use Rattle.register.specs.Dropping.{register_of};
+    ghost use Rattle.register.specs.Fits.{Tabled};
 
-    ghost view = { λ r. register_of r.lines.items };
+    ghost view = { λ r. record { count = r.count; lines = r.lines } };
 
-    ghost invariant = { λ r. array_vec_len r.lines ≤ register_places };
+    ghost inverse = { λ g. record { count = g.count; lines = g.lines } };
+
+    ghost invariant = { λ r. Tabled (record { count = r.count; lines = r.lines }) };
 }
 
 impl Register {
@@ -46,21 +47,30 @@ impl Register {
         ensures { result ≡ register_of [] }
     {
         Register {
-            lines: ArrayVec::new(),
+            count: 0,
+            lines: [Line::default(); PLACES],
         }
+    }
+
+    // The lines. Who reads them is told that the register has all its places.
+    fn lines(&self) -> &[Line]
+        ensures lines { result.now ≡ take self.now.count self.now.lines }
+        ensures table { Tabled self.now }
+    {
+        &self.lines[..self.count]
     }
 
     // How many lines there are.
     pub fn len(&self) -> usize
         ensures { result ≡ self.now.count }
     {
-        self.lines.len()
+        self.count
     }
 
     // The free places.
     pub fn free(&self) -> usize
         ensures { result ≡ free_in self.now }
     {
-        self.lines.remaining_capacity()
+        PLACES - self.count
     }
 }

@@ -3,8 +3,9 @@ ghost use Rattle.std.specs.Prelude.{◌≡◌, ◌<◌, nat_lt};
 ghost use Rattle.register.specs.Limits.{register_places};
 ghost use Rattle.register.specs.Netting.{place_of, line_of, traded as traded_line, filed, buyer_key, seller_key, buyer_filed, trade_filed, trade_too_large};
 ghost use Rattle.register.specs.Sides.{sides_netted, new_lines};
-ghost use Rattle.register.specs.Fits.{AllSized, Sized, Nettable, Room};
+ghost use Rattle.register.specs.Fits.{Tabled, AllSized, Sized, Nettable, Room};
 
+use crate::asking::same_key;
 use crate::line::Line;
 use crate::trade::{Deal, Side, Trade};
 use crate::{PLACES, Register};
@@ -45,7 +46,10 @@ impl Register {
     {
         match self.place(key) {
             Some(place) => self.lines[place] = line,
-            None => self.lines.push(line),
+            None => {
+                self.lines[self.count] = line;
+                self.count += 1;
+            }
         }
     }
 
@@ -84,7 +88,7 @@ impl Register {
         ensures { result ≡ new_lines self.now buyer seller }
     {
         let bought = usize::from(!self.knows(buyer));
-        let sold = usize::from(!(buyer == seller || self.knows(seller)));
+        let sold = usize::from(!(same_key(buyer, seller) || self.knows(seller)));
         bought + sold
     }
 
@@ -92,13 +96,16 @@ impl Register {
     fn count_after(&self, due: u32, trade: Trade) -> usize
         ensures { nat_lt register_places result ≡ nat_lt register_places (trade_filed self.now due trade).count }
     {
-        self.lines.len() + self.new_lines(trade.key(Side::Buyer, due), trade.key(Side::Seller, due))
+        self.count + self.new_lines(trade.key(Side::Buyer, due), trade.key(Side::Seller, due))
     }
 
     // Whether there is no place for the lines of a trade.
+    // Whoever asks learns besides that the register has all its places, which the lemmas about netting lean on.
     pub fn lacks_place(&self, due: u32, trade: Trade) -> bool
-        ensures { result ≡ nat_lt register_places (trade_filed self.now due trade).count }
+        ensures lacks { result ≡ nat_lt register_places (trade_filed self.now due trade).count }
+        ensures table { Tabled self.now }
     {
+        let _ = &self.count;
         self.count_after(due, trade) > PLACES
     }
 
@@ -113,7 +120,7 @@ impl Register {
         let buyer = deal.key(Side::Buyer);
         let seller = deal.key(Side::Seller);
         netted_sides(
-            buyer == seller,
+            same_key(buyer, seller),
             self.line_or_blank(buyer),
             self.line_or_blank(seller),
             deal,

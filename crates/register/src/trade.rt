@@ -25,6 +25,7 @@ pub struct Trade {
 }
 
 // The flag that a number stands for. A number above 3 stands for none, and is refused before it is read.
+#[tactic(auto, using(crate::proofs::Flags::flagged))]
 pub fn flag_of(number: u8) -> Flag
     ensures { result ≡ flag_of number }
 {

@@ -1,5 +1,5 @@
 -- The figures of a house as contracts see them.
-use Rattle.std.specs.Prelude.{ℕ, List, map}
+use Rattle.std.specs.Prelude.{◌≡◌, ℕ, List, [], ◌∷◌, map}
 use Rattle.register.specs.declared.Register.{Register}
 use Rattle.rules.specs.declared.figures.Member.{Member}
 use Rattle.rules.specs.declared.figures.Row.{Row}
@@ -27,3 +27,13 @@ tallied z c g xs ps n = record {
   closes = ps;
   fails = n;
 }
+
+-- The seats of these members with these shares in escrow. So the figures are told from what contracts see of them.
+abbrev pub seated : List Member → List Row → List Seat
+seated [] es = []
+seated (m ∷ ms) [] = []
+seated (m ∷ ms) (e ∷ es) = record { member = m; escrow = e } ∷ seated ms es
+
+pub seated_again : (xs : List Seat) → seated (map (λ x. x.member) xs) (map (λ x. x.escrow) xs) ≡ xs
+seated_again [] = λ i. []
+seated_again (x ∷ xs) = λ i. x ∷ seated_again xs i

@@ -81,7 +81,7 @@ pub struct Clock {
 }
 
 // The figures of a house. They fit their bounds, whatever befalls the house.
-#[derive(Drop)]
+#[derive(Clone, Copy)]
 pub struct Figures {
     pub size: Size,
     pub clock: Clock,
@@ -94,13 +94,17 @@ pub struct Figures {
 }
 
 impl Model for Figures {
-    ghost use Rattle.rules.specs.Tallies.{Tallies, tallied};
+    ghost use Rattle.rules.specs.Tallies.{Tallies, tallied, seated, seated_again};
 
     ghost Value = { Tallies };
 
     ghost use Rattle.rules.specs.Fit.{Fit};
 
     ghost view = { λ f. tallied f.size f.clock f.register f.seats f.closes f.fails };
+
+    ghost inverse = { λ t. record { size = t.size; clock = t.clock; register = t.register; seats = seated t.records t.escrow; closes = t.closes; fails = t.fails } };
+
+    ghost inverse_ok = { λ f h i. record { size = f.size; clock = f.clock; register = f.register; seats = seated_again f.seats i; closes = f.closes; fails = f.fails } };
 
     ghost invariant = { λ f. Fit (tallied f.size f.clock f.register f.seats f.closes f.fails) };
 }

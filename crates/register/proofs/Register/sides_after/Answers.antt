@@ -1,8 +1,6 @@
-use Rattle.std.proofs.Common.{◌≡◌, sym, ap, ◌∙◌, subst, rules}
+use Rattle.std.proofs.Common.{sym, ap, ◌∙◌, subst}
 use Rattle.register.specs.declared.netting.Sides.{Sides}
-use Rattle.register.specs.Netting.{same_key}
-use Rattle.register.specs.Fits.{Sized}
-use Rattle.register.proofs.Tables.{Tabled, tabled}
+use Rattle.register.specs.Fits.{Tabled, Sized}
 use Rattle.register.proofs.Trades.{sized_line_of, sides_from, buyer_after, seller_after}
 use Rattle.register.proofs.Register.sides_after.Goals as goal
 
@@ -19,11 +17,10 @@ returns c =
     let g = c.args.self.now in
     let t = c.args.deal.trade in
     let d = c.args.deal.due in
-    let table = subst Tabled c.self.view_is (tabled c.self.inside.lines.items c.self.invariant) in
-    let one : c.eq.result ≡ same_key c.key-buyer.result c.key-seller.result = search rules in
+    let table = subst Tabled c.self.view_is c.self.invariant in
     let e = sides_from g d t c.netted_sides.result c.key-buyer.result c.key-seller.result
-    c.eq.result c.line_or_blank.result c.line_or_blank-2.result
-    c.key-buyer.ensures c.key-seller.ensures one c.line_or_blank.ensures c.line_or_blank-2.ensures
+    c.same_key.result c.line_or_blank.result c.line_or_blank-2.result
+    c.key-buyer.ensures c.key-seller.ensures c.same_key.ensures c.line_or_blank.ensures c.line_or_blank-2.ensures
     c.netted_sides.ensures in
     record {
       buyer = ap (λ (s : Sides). s.buyer) e ∙ buyer_after g d t table c.requires.room;
