@@ -34,7 +34,6 @@ fn traded(register: &mut Register, due: u32, trade: Trade) -> bool
     requires { AllSized register.old }
     ensures { AllSized register.new }
 {
-    let _ = &register.lines;
     if trade.quantity > MOST_QUANTITY || trade.price > 1_000_000 {
         return false;
     }
@@ -71,6 +70,14 @@ fn trades_net(rt: HostRuntime) {
     assert!(rt; register.len() == 3 && has(register.find(key(4, 3)), 0, 0, 0, 0));
     assert!(rt; !traded(&mut register, 4, trade(2, 1, MOST_QUANTITY, 1)));
     assert!(rt; register.find(key(5, 1)).is_none());
+}
+
+#[test]
+fn a_copy_stays(rt: HostRuntime) {
+    let mut register = empty();
+    let before = register;
+    assert!(rt; traded(&mut register, 4, trade(1, 2, 60, 10)));
+    assert!(rt; register.len() == 2 && before.len() == 0);
 }
 
 #[test]
