@@ -34,13 +34,17 @@ impl Counts {
     }
 
     pub fn accounts(self) -> u8
-        ensures { result ≡ self.accounts }
+        ensures value { result ≡ self.accounts }
+        ensures some { 0 < result }
+        ensures few { result ≤ most_accounts }
     {
         self.accounts
     }
 
     pub fn assets(self) -> u8
-        ensures { result ≡ self.assets }
+        ensures value { result ≡ self.assets }
+        ensures some { 0 < result }
+        ensures few { result ≤ most_assets }
     {
         self.assets
     }

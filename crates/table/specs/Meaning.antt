@@ -1,16 +1,17 @@
 -- What a table means.
 use Rattle.std.specs.Prelude.{◌≡◌, ℕ, ◌<◌, not, [], ◌∷◌}
-use Rattle.book.specs.Ledger.{Ledger}
+use Rattle.book.specs.Ledger.{Ledger, Sound, most_space}
 use Rattle.book.specs.Refusals.{◌when◌}
 use Rattle.book.specs.Faults.{number_of}
 use Rattle.book.specs.declared.fault.BookFault.TheVariants.{NoAccount, NoAsset, BadAmount}
-use Rattle.book.specs.Movement.{no_account, no_asset, good_amount}
+use Rattle.book.specs.Movement.{Movement, no_account, no_asset, good_amount, movement_number, Carried}
 use Rattle.table.specs.declared.Table.{Table}
 use Rattle.table.specs.declared.rows.Place.{Place}
-use Rattle.table.specs.Rows.{ledger}
+use Rattle.table.specs.Rows.{cell}
 
+-- Its space is always the same.
 abbrev pub meaning : Table → Ledger
-meaning t = ledger t.counts t.rows
+meaning t = record { accounts = t.accounts; assets = t.assets; space = most_space; held = cell t.rows }
 
 -- The number of the first refusal that looks at the account, the asset or the amount alone; 0 where none applies.
 abbrev pub judged_number : Ledger → ℕ → ℕ → ℕ → ℕ
@@ -26,3 +27,8 @@ pub record IsPlaceOf (b : Ledger) (a s : ℕ) (place : Place) : Type 0 where
   pub asset : place.asset ≡ s
   pub some_account : a < b.accounts
   pub some_asset : s < b.assets
+
+-- How an accepted movement m leaves the table t of the table b.
+pub record Kept (m : Movement) (b t : Table) : Type 0 where
+  pub carried : Sound (meaning b) → movement_number (meaning b) m ≡ 0 → Carried m (meaning b) 0 (meaning t)
+  pub stays : Sound (meaning b) → movement_number (meaning b) m ≡ 0 → Sound (meaning t)

@@ -1,9 +1,12 @@
 // The table: a book that keeps a number for each account and asset.
 #![tactic(auto)]
 
-ghost use Rattle.std.specs.Prelude.{◌≡◌, ◌≢◌, ℕ, ◌+◌, ◌<◌, ◌≤◌, IfOk, Ok, Err, if◌then◌else◌, nat_lt};
-ghost use Rattle.book.specs.Ledger.{Sound};
-ghost use Rattle.table.specs.Rows.{ledger};
+ghost use Rattle.std.specs.Prelude.{◌≡◌, ◌<◌, ◌≤◌, IfOk, min};
+ghost use Rattle.book.specs.Ledger.{Empty, Sound, total, most_accounts, most_assets, most_space};
+ghost use Rattle.book.specs.Movement.{Put, Pull, Move, balance_number, movement_number};
+ghost use Rattle.book.specs.Faults.{answer_number};
+ghost use Rattle.table.specs.Rows.{most_number};
+ghost use Rattle.table.specs.Meaning.{meaning, judged_number, IsPlaceOf, Kept};
 
 use book::Book;
 use book::counts::Counts;
@@ -11,7 +14,7 @@ use book::fault::BookFault;
 
 mod rows;
 
-use rows::{ACCOUNTS, Place, Row, balance_at, empty_rows, raise, write};
+use rows::{ACCOUNTS, Place, Row, balance_at, empty_rows, write};
 
 // The largest amount of one movement, and the largest sum of an asset over all accounts.
 const MOST_AMOUNT: u64 = 1_000_000_000_000_000;
@@ -19,26 +22,19 @@ const MOST_AMOUNT: u64 = 1_000_000_000_000_000;
 // A book whose space never falls.
 #[derive(Drop)]
 pub struct Table {
-    counts: Counts,
+    accounts: u8,
+    assets: u8,
     rows: [Row; ACCOUNTS],
-    pub ghost sound: { Sound (ledger counts rows) },
 }
 
 impl Table {
-    ghost use Rattle.book.specs.Ledger.{Empty, total, most_amount, most_space};
-    ghost use Rattle.book.specs.Movement.{Pull, Carried, balance_number};
-    ghost use Rattle.book.specs.Faults.{answer_number};
-    ghost use Rattle.book.specs.declared.fault.BookFault.TheVariants.{NoAccount};
-    ghost use Rattle.table.specs.Meaning.{meaning, judged_number, IsPlaceOf};
-
     // An empty table of these counts.
     pub fn new(counts: Counts) -> Table
         ensures empty { Empty counts.accounts counts.assets (meaning result) }
         ensures space { (meaning result).space ≡ most_space }
         ensures good { Sound (meaning result) }
     {
-        let rows = empty_rows();
-        Table { counts, rows }
+        Table::empty(counts.accounts(), counts.assets())
     }
 
     // The smallest table: one account and one asset.
@@ -49,14 +45,15 @@ impl Table {
         Table::new(Counts::new(1, 1).unwrap())
     }
 
-    // The row of an account.
-    fn row(&self, account: u8) -> Result<usize, BookFault>
-        ensures { result ≡ (if nat_lt account self.now.counts.accounts then Ok account else Err NoAccount) }
+    fn empty(accounts: u8, assets: u8) -> Table
+        ensures empty { Empty accounts assets (meaning result) }
+        ensures good { 0 < accounts → accounts ≤ most_accounts → 0 < assets → assets ≤ most_assets → Sound (meaning result) }
     {
-        if account < self.counts.accounts() {
-            Ok(usize::from(account))
-        } else {
-            Err(BookFault::NoAccount)
+        let rows = empty_rows();
+        Table {
+            accounts,
+            assets,
+            rows,
         }
     }
 
@@ -65,13 +62,13 @@ impl Table {
         ensures answer { answer_number result ≡ balance_number (meaning self.now) account asset }
         ensures place { IfOk result (IsPlaceOf (meaning self.now) account asset) }
     {
-        let account = self.row(account)?;
-        if asset < self.counts.assets() {
-            let asset = usize::from(asset);
-            Ok(Place { account, asset })
-        } else {
-            Err(BookFault::NoAsset)
+        if account >= self.accounts {
+            return Err(BookFault::NoAccount);
         }
+        if asset >= self.assets {
+            return Err(BookFault::NoAsset);
+        }
+        Ok(Place { account, asset })
     }
 
     // The same for a movement of an amount, which is looked at last.
@@ -87,32 +84,58 @@ impl Table {
         }
     }
 
-    // The sum of a place's asset over all accounts.
-    fn total(&self, place: Place) -> u64
-        ensures { result ≡ total (meaning self.now) place.asset }
+    // The same for an amount that the account has to hold.
+    fn source(&self, account: u8, asset: u8, amount: u64) -> Result<Place, BookFault>
+        ensures answer { answer_number result ≡ movement_number (meaning self.now) (Pull account asset amount) }
+        ensures place { IfOk result (IsPlaceOf (meaning self.now) account asset) }
     {
-        let used = &self.rows[..usize::from(self.counts.accounts())];
-        used.iter().map(|row| row.get(place.asset)).sum()
+        let place = self.judge(account, asset, amount)?;
+        if balance_at(&self.rows, place) < amount {
+            return Err(BookFault::TooLittle);
+        }
+        Ok(place)
     }
 
-    // Takes an amount from an account, and answers from which place.
-    fn debit(&mut self, account: u8, asset: u8, amount: u64) -> Result<Place, BookFault>
-        ensures carried { Carried (Pull account asset amount) (meaning self.old) (answer_number result) (meaning self.new) }
-        ensures place { IfOk result (IsPlaceOf (meaning self.old) account asset) }
-        ensures others { (x y : ℕ) → x ≢ account → (meaning self.new).held x y ≡ (meaning self.old).held x y }
-        ensures room { IfOk result (λ from. total (meaning self.new) from.asset + amount ≤ most_amount) }
+    // The sum of an asset over all accounts, or the largest number where it is more than that.
+    fn total(&self, asset: u8) -> u64
+        ensures { result ≡ min (total (meaning self.now) asset) most_number }
     {
-        let from = self.judge(account, asset, amount)?;
+        let used = self.rows.iter().take(usize::from(self.accounts));
+        used.map(|row| row.get(asset)).fold(0, u64::saturating_add)
+    }
+
+    // Raises a balance.
+    fn credit(&mut self, place: Place, amount: u64)
+        ensures { Kept (Put place.account place.asset amount) self.old self.new }
+    {
+        let held = balance_at(&self.rows, place);
+        write(&mut self.rows, place, held.saturating_add(amount));
+    }
+
+    // Lowers a balance.
+    fn debit(&mut self, place: Place, amount: u64)
+        ensures { Kept (Pull place.account place.asset amount) self.old self.new }
+    {
+        let held = balance_at(&self.rows, place);
+        write(&mut self.rows, place, held.saturating_sub(amount));
+    }
+
+    // Lowers one balance and raises another account's.
+    fn carry(&mut self, from: Place, to: u8, amount: u64)
+        ensures { Kept (Move from.account to from.asset amount) self.old self.new }
+    {
+        let to = Place {
+            account: to,
+            ..from
+        };
         let held = balance_at(&self.rows, from);
-        let rest = held.checked_sub(amount).ok_or(BookFault::TooLittle)?;
-        write(&mut self.rows, from, rest);
-        Ok(from)
+        let there = balance_at(&self.rows, to);
+        write(&mut self.rows, from, held.saturating_sub(amount));
+        write(&mut self.rows, to, there.saturating_add(amount));
     }
 }
 
 impl Book for Table {
-    ghost use Rattle.table.specs.Meaning.{meaning};
-
     ghost ledger = { meaning };
 
     ghost good = { λ t. Sound (meaning t) };
@@ -120,11 +143,11 @@ impl Book for Table {
     ghost sound = { λ t h. h };
 
     fn accounts(&self) -> u8 {
-        self.counts.accounts()
+        self.accounts
     }
 
     fn assets(&self) -> u8 {
-        self.counts.assets()
+        self.assets
     }
 
     fn space(&self) -> u32 {
@@ -138,25 +161,25 @@ impl Book for Table {
 
     fn put(&mut self, account: u8, asset: u8, amount: u64) -> Result<(), BookFault> {
         let place = self.judge(account, asset, amount)?;
-        if amount > MOST_AMOUNT - self.total(place) {
+        if self.total(asset).saturating_add(amount) > MOST_AMOUNT {
             return Err(BookFault::TooMuch);
         }
-        raise(&mut self.rows, place, amount);
+        self.credit(place, amount);
         Ok(())
     }
 
     fn pull(&mut self, account: u8, asset: u8, amount: u64) -> Result<(), BookFault> {
-        self.debit(account, asset, amount)?;
+        let place = self.source(account, asset, amount)?;
+        self.debit(place, amount);
         Ok(())
     }
 
     fn transfer(&mut self, from: u8, to: u8, asset: u8, amount: u64) -> Result<(), BookFault> {
-        let account = self.row(to)?;
-        if from == to {
+        if to >= self.accounts || from == to {
             return Err(BookFault::NoAccount);
         }
-        let asset = self.debit(from, asset, amount)?.asset;
-        raise(&mut self.rows, Place { account, asset }, amount);
+        let place = self.source(from, asset, amount)?;
+        self.carry(place, to, amount);
         Ok(())
     }
 }
@@ -196,6 +219,34 @@ mod tests {
         assert_eq!(rt; t.put(0, 1, MOST_AMOUNT), Ok(()));
         assert_eq!(rt; t.put(1, 1, 1), Err(BookFault::TooMuch));
         assert_eq!(rt; t.put(1, 0, MOST_AMOUNT + 1), Err(BookFault::BadAmount));
+        Ok(())
+    }
+
+    // A table of one's own beside one that is lent.
+    #[derive(Drop)]
+    struct Beside<'a> {
+        own: Table,
+        lent: &'a mut Table,
+    }
+
+    fn put_beside<'a>(own: Table, lent: &'a mut Table) -> Result<Beside<'a>, BookFault> {
+        if own.accounts() == lent.accounts() {
+            Ok(Beside { own, lent })
+        } else {
+            Err(BookFault::BadCounts)
+        }
+    }
+
+    #[test]
+    fn stands_beside_a_lent_table(rt: HostRuntime) -> Result<(), Fail> {
+        let mut lent = small()?;
+        assert!(rt; put_beside(Table::smallest(), &mut lent).is_err());
+        let mut both = put_beside(small()?, &mut lent)?;
+        assert_eq!(rt; both.own.put(0, 1, 7), Ok(()));
+        assert_eq!(rt; both.lent.put(1, 0, 5), Ok(()));
+        assert_eq!(rt; both.own.balance(0, 1), Ok(7));
+        assert_eq!(rt; both.own.balance(1, 0), Ok(0));
+        assert_eq!(rt; both.lent.balance(1, 0), Ok(5));
         Ok(())
     }
 

@@ -1,25 +1,19 @@
-use Rattle.std.proofs.Common.{◌≡◌, ◌+◌, ap, ◌∙◌, arith}
-use Rattle.std.proofs.lemmas.Grind.{common_steps}
-use Rattle.book.specs.Ledger.{Balances}
+use Rattle.std.proofs.Common.{◌≡◌, ◌-◌, refl, ap, ◌∙◌, arith}
+use Rattle.book.specs.Ledger.{with_held}
+use Rattle.book.specs.Movement.{Pull}
+use Rattle.book.proofs.Accepted.{pull_accepted}
 use Rattle.table.specs.Rows.{cell}
-use Rattle.table.proofs.Moved.{changed_sound, room_after, other_balance}
+use Rattle.table.specs.Meaning.{meaning}
+use Rattle.table.proofs.Moved.{kept}
 use Rattle.table.proofs.Table.debit.Goals as goal
 
-pub invariant_of-self : goal.invariant_of-self
-invariant_of-self c =
+pub returns : goal.returns
+returns c =
     let b = c.args.self.now in
-    let place = c.in_ok-from.ensures.place in
-    let lower : c.in_ok-rest.rest + c.args.amount ≡ c.balance_at-held.result = grind (arith, common_steps) in
-    let within = b.sound.total_within c.in_ok-from.from.asset in
-    record { sound = changed_sound b.counts _ _ _ _ _ b.sound c.write.ensures (omega arith) (omega arith) (omega arith) }
-
-pub returns-clause-room : goal.returns-clause-room
-returns-clause-room c =
-    let b = c.args.self.now in
-    let place = c.in_ok-from.ensures.place in
-    let lower : c.in_ok-rest.rest + c.args.amount ≡ c.balance_at-held.result = grind (arith, common_steps) in
-    room_after b.counts _ _ _ _ _ _ b.sound c.write.ensures (omega arith) (omega arith)
-
-pub returns-clause-others : goal.returns-clause-others
-returns-clause-others c =
-    λ x y other. ap (λ (f : Balances). f x y) c.write.ensures ∙ other_balance (cell c.args.self.now.rows) _ _ _ x y (λ e. other (e ∙ c.in_ok-from.ensures.place.account))
+    let a = c.args.place.account in
+    let s = c.args.place.asset in
+    let n = c.args.amount in
+    kept (Pull a s n) b (record { accounts = b.accounts; assets = b.assets; rows = c.write.new.rows }) refl refl
+    (λ h ok. let x = h.few_accounts in let y = h.few_assets in let o = pull_accepted (meaning b) a s n ok in
+    let v : c.saturating_sub.result ≡ cell b.rows a s - n = omega arith in
+    c.write.ensures (omega arith) (omega arith) ∙ ap (λ z. with_held (cell b.rows) a s z) v)

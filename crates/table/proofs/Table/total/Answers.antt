@@ -1,23 +1,14 @@
-use Rattle.std.proofs.Common.{◌≡◌, ◌<◌, ◌^◌, ◌∙◌, take, get_or, rules, arith}
-use Rattle.std.specs.List.{sum_by}
-use Rattle.std.proofs.iter.runs.Sources.{sums}
-use Rattle.table.proofs.Cells.{sum_of_rows}
+use Rattle.std.proofs.Common.{◌∙◌, get_or, rules, tests}
+use Rattle.std.proofs.lemmas.Iterator.{YieldsList-from_slice, YieldsList-from_take, YieldsList-from_map}
+use Rattle.std.proofs.lemmas.Iterator.Consumers.{YieldsList-at, fold_from_yields_List}
+use Rattle.table.proofs.Cells.{saturating, saturated_of_rows}
 use Rattle.table.proofs.Table.total.Goals as goal
-
-pub sum-requires-clause-fits : goal.sum-requires-clause-fits
-sum-requires-clause-fits c =
-    let b = c.args.self.now in
-    let s = c.args.place.asset in
-    let few = b.counts.few_accounts in
-    let rows = sum_of_rows b.rows s b.counts.accounts (omega arith) in
-    let within = b.sound.total_within s in
-    let fits : sum_by (λ r. get_or r.cells s 0) (take b.counts.accounts b.rows) < 2 ^ 64 = omega arith in
-    search (rules, sums)
 
 pub returns : goal.returns
 returns c =
     let b = c.args.self.now in
-    let s = c.args.place.asset in
-    let few = b.counts.few_accounts in
-    let summed : c.sum.result ≡ sum_by (λ r. get_or r.cells s 0) (take b.counts.accounts b.rows) = search (rules, sums) in
-    summed ∙ sum_of_rows b.rows s b.counts.accounts (omega arith)
+    let s = c.args.asset in
+    let folded = fold_from_yields_List _ saturating 0 c.fold.result c.fold.ensures.ran
+    (YieldsList-from_map _ (λ r. get_or r.cells s 0) (YieldsList-at c.map.ensures.source (YieldsList-from_take b.accounts (YieldsList-at c.take-used.ensures.source (YieldsList-from_slice b.rows cc)) (cc))) c.map.ensures.closure (λ x r q k. search (rules, tests)))
+    (λ a x r q k. search (rules, tests)) in
+    folded ∙ saturated_of_rows b.rows s b.accounts

@@ -1,0 +1,29 @@
+use Rattle.std.proofs.Common.{◌≡◌, ◌+◌, ◌-◌, refl, ap, ◌∙◌, arith}
+use Rattle.book.specs.Ledger.{Balances, with_held}
+use Rattle.book.specs.Movement.{Move}
+use Rattle.book.proofs.Accepted.{move_accepted}
+use Rattle.book.proofs.Sums.{term_within_sum}
+use Rattle.table.specs.Rows.{cell}
+use Rattle.table.specs.Meaning.{meaning}
+use Rattle.table.proofs.Moved.{kept}
+use Rattle.table.proofs.Table.carry.Goals as goal
+
+pub returns : goal.returns
+returns c =
+    let b = c.args.self.now in
+    let a = c.args.from.account in
+    let d = c.args.to in
+    let s = c.args.from.asset in
+    let n = c.args.amount in
+    let f = cell b.rows in
+    kept (Move a d s n) b (record { accounts = b.accounts; assets = b.assets; rows = c.write-2.new.rows }) refl refl
+    (λ h ok. let x = h.few_accounts in let y = h.few_assets in let o = move_accepted (meaning b) a d s n ok in
+    let m = h.total_within s in
+    let la = term_within_sum b.accounts (λ x. cell b.rows x s) a o.from in
+    let ld = term_within_sum b.accounts (λ x. cell b.rows x s) d o.to in
+    let v : c.saturating_sub.result ≡ cell b.rows a s - n = omega arith in
+    let w : c.saturating_add.result ≡ cell b.rows d s + n = omega arith in
+    c.write-2.ensures (omega arith) (omega arith)
+    ∙ (ap (λ (g : Balances). with_held g d s c.saturating_add.result) (c.write.ensures (omega arith) (omega arith))
+    ∙ (ap (λ z. with_held (with_held f a s z) d s c.saturating_add.result) v
+    ∙ ap (λ z. with_held (with_held f a s (f a s - n)) d s z) w)))
