@@ -6,7 +6,6 @@ ghost use Rattle.script.specs.Meaning.{meaning};
 use crate::command::Command;
 use crate::misread::Misread;
 use crate::reader::read;
-use arrayvec::ArrayVec;
 use std::marker::Model;
 
 // One byte more than a line may have. Those that follow are let go: there are too many whatever they are.
@@ -14,16 +13,20 @@ const KEPT: usize = 65_537;
 
 #[derive(Drop)]
 pub struct Line {
-    bytes: ArrayVec<u8, KEPT>,
+    bytes: [u8; KEPT],
+    held: usize,
 }
 
-// A line is the list of the bytes that are kept of it.
+// A line is the list of the bytes that it holds. What lies behind them is left of lines before.
 impl Model for Line {
-    ghost use Rattle.std.specs.Prelude.{ℕ, List};
+    ghost use Rattle.std.specs.Prelude.{ℕ, ◌≤◌, List, take};
+    ghost use Rattle.script.specs.Gathering.{room};
 
     ghost Value = { List ℕ };
 
-    ghost view = { λ l. l.bytes.items };
+    ghost view = { λ l. take l.held l.bytes };
+
+    ghost invariant = { λ l. l.held ≤ room };
 }
 
 impl Line {
@@ -31,7 +34,8 @@ impl Line {
         ensures { result ≡ [] }
     {
         Line {
-            bytes: ArrayVec::new(),
+            bytes: [0; KEPT],
+            held: 0,
         }
     }
 
@@ -39,8 +43,9 @@ impl Line {
     pub fn push(&mut self, byte: u8)
         ensures { self.new ≡ pushed self.old byte }
     {
-        if !self.bytes.is_full() {
-            self.bytes.push(byte);
+        if self.held < KEPT {
+            self.bytes[self.held] = byte;
+            self.held += 1;
         }
     }
 
@@ -48,14 +53,14 @@ impl Line {
     pub fn clear(&mut self)
         ensures { self.new ≡ [] }
     {
-        self.bytes.clear();
+        self.held = 0;
     }
 
     // What the bytes that are kept say.
     pub fn read(&self) -> Result<Option<Command>, Misread>
         ensures { result ≡ meaning self.now }
     {
-        read(self.bytes.as_slice())
+        read(&self.bytes[..self.held])
     }
 }
 

@@ -49,12 +49,16 @@ fn command(name: &[u8], words: &mut Words) -> Result<Command, Misread>
             asset: words.byte()?,
             amount: words.amount()?,
         })),
-        b"move" => Ok(Command::OnBook(BookCommand::Move {
-            from: words.byte()?,
-            to: words.byte()?,
-            asset: words.byte()?,
-            amount: words.amount()?,
-        })),
+        b"move" => {
+            let from = words.byte()?;
+            let to = words.byte()?;
+            Ok(Command::OnBook(BookCommand::Move {
+                from,
+                to,
+                asset: words.byte()?,
+                amount: words.amount()?,
+            }))
+        }
         b"balance" => Ok(Command::OnBook(BookCommand::Balance {
             account: words.byte()?,
             asset: words.byte()?,
