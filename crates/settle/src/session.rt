@@ -33,16 +33,22 @@ impl Session {
         }
     }
 
-    // Makes an empty table. The book that was there is let go, whatever the answer.
+    // Makes an empty table. The book that was there is let go, whatever the answer. It is written once, since a table is large.
     fn make_table(&mut self, accounts: u8, assets: u8) -> Answer
         ensures obeyed { Obeyed (Command.Table accounts assets) self.old.book result self.new.book }
         ensures lines { self.new.lines ≡ self.old.lines }
         ensures errors { self.new.errors ≡ self.old.errors }
     {
-        self.book = None;
-        let counts = Counts::new(accounts, assets)?;
-        self.book = Some(Table::new(counts));
-        Ok(Reply::Done)
+        match Counts::new(accounts, assets) {
+            Ok(counts) => {
+                self.book = Some(Table::new(counts));
+                Ok(Reply::Done)
+            }
+            Err(fault) => {
+                self.book = None;
+                Err(fault.into())
+            }
+        }
     }
 
     fn carry_out(&mut self, command: Command) -> Answer
