@@ -1,3 +1,6 @@
+mod Brought
 mod Emptiness
+mod Kept
 mod Made
 mod Novated
+mod Same

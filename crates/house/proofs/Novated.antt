@@ -1,14 +1,16 @@
 -- A trade that was netted, or refused, as an event of the house.
-use Rattle.std.proofs.Common.{◌≡◌, ℕ, ◌+◌, ◌≤◌, Bool, true, false, cond, if◌then◌else◌, Ok, None, sym, refl, ap, ◌∙◌, subst, arith}
+use Rattle.std.proofs.Common.{◌≡◌, ℕ, ◌+◌, ◌≤◌, Bool, true, false, cond, if◌then◌else◌, Ok, None, Result, sym, refl, ap, ◌∙◌, subst, arith}
 use Rattle.book.specs.Ledger.{Ledger}
 use Rattle.register.specs.declared.trade.Trade.{Trade}
 use Rattle.rules.specs.declared.event.Event.TheVariants.{Novate}
+use Rattle.rules.specs.declared.fault.HouseFault.{HouseFault}
 use Rattle.rules.specs.declared.figures.Figures.{Figures}
 use Rattle.rules.specs.Faults.{Answer, is_accepted}
+use Rattle.rules.specs.Fit.{Fit}
 use Rattle.rules.specs.Run.{Before}
 use Rattle.trading.specs.Traded.{novate_judged, figures_traded}
 use Rattle.desk.specs.Passed.{state_of}
-use Rattle.house.specs.Seen.{Seen, Told, house_of}
+use Rattle.house.specs.Seen.{Seen, Told, house_of, refusal_in, figures_in}
 use Rattle.house.specs.Handled.{Counted, AnsweredBy}
 
 spent : (x : Bool) (n : ℕ) → n ≤ n + cond x 0 0
@@ -35,9 +37,15 @@ novated rank f f' t b w e left c = record {
 }
 
 -- So it is told of a house that was opened.
-pub novated_told : {B R : Type 0} (good : B → Type 0) (ledger : B → Ledger) (goes : R → Before) (h : Seen B R) (b : B) (r : R) (f f' : Figures) (t : Trade) (w : Answer)
-    → house_of b r (Ok f) ≡ h → w ≡ novate_judged f t → f' ≡ (if is_accepted w then figures_traded f t else f)
-    → Told good ledger goes (Novate t) h w (house_of b r (Ok f'))
-novated_told good ledger goes h b r f f' t w is e left =
-    subst (λ x. Told good ledger goes (Novate t) x w (house_of b r (Ok f'))) is
-    (record { handled = λ _. novated (goes r) f f' t (ledger b) w e left; stays = λ x. x; rank = refl {a = r}; refusal = refl {a = None} })
+pub novated_told : {B R : Type 0} (good : B → Type 0) (ledger : B → Ledger) (goes : R → Before) (h : Seen B R) (b : B) (r : R) (o : Result Figures HouseFault)
+    (fit : ∥ Fit (figures_in o) ∥₁) (f f' : Figures) (fit' : ∥ Fit f' ∥₁) (t : Trade) (w : Answer)
+    → house_of b r o fit ≡ h → o ≡ Ok f → w ≡ novate_judged f t → f' ≡ (if is_accepted w then figures_traded f t else f)
+    → Told good ledger goes (Novate t) h w (house_of b r (Ok f') fit')
+novated_told good ledger goes h b r o fit f f' fit' t w is stood e left =
+    subst (λ x. Told good ledger goes (Novate t) x w (house_of b r (Ok f') fit')) is
+    (record {
+      handled = λ _. subst (λ o. AnsweredBy (refusal_in o) (goes r) (Novate t) (figures_in o) (ledger b) w f' (ledger b)) (sym stood) (novated (goes r) f f' t (ledger b) w e left);
+      stays = λ x. x;
+      rank = refl {a = r};
+      refusal = sym (ap refusal_in stood);
+    })

@@ -1,4 +1,7 @@
 // A house.
+ghost use Rattle.rules.specs.Fit.{Fit};
+ghost use Rattle.house.specs.Seen.{figures_in};
+
 use book::Book;
 use rank::Rank;
 use rules::fault::HouseFault;
@@ -11,6 +14,7 @@ pub struct House<B: Book, R: Rank> {
     pub(crate) book: B,
     pub(crate) rank: R,
     pub(crate) state: Result<Figures, HouseFault>,
+    ghost fit: { ∥ Fit (figures_in state) ∥₁ },
 }
 
 impl<B: Book, R: Rank> Model for House<B, R> {
@@ -18,5 +22,5 @@ impl<B: Book, R: Rank> Model for House<B, R> {
 
     ghost Value = { Seen B R };
 
-    ghost view = { λ h. house_of h.book h.rank h.state };
+    ghost view = { λ h. house_of h.book h.rank h.state h.fit };
 }

@@ -2,6 +2,7 @@
 ghost use Rattle.std.specs.Prelude.{◌≡◌, ◌≤◌, ◌==◌};
 ghost use Rattle.book.specs.Ledger.{sum_to};
 ghost use Rattle.rules.specs.Events.{book_sum, open_answer, suits};
+ghost use Rattle.rules.specs.Fit.{Fit};
 ghost use Rattle.rules.specs.Limits.{most_members, most_securities};
 ghost use Rattle.house.specs.Seen.{refusal_in, figures_in};
 ghost use Rattle.house.specs.Opened.{OpenedBy, bad_counts};
@@ -59,7 +60,8 @@ fn suits<B: Book>(book: &B, members: u8, securities: u8) -> bool
 
 // The figures of a house of these counts over a book, or why it is refused.
 fn begin<B: Book>(book: &B, members: u8, securities: u8) -> Result<Figures, HouseFault>
-    ensures { B.good book.now → OpenedBy (B.ledger book.now) members securities (refusal_in result) (figures_in result) }
+    ensures opened { B.good book.now → OpenedBy (B.ledger book.now) members securities (refusal_in result) (figures_in result) }
+    ensures fit { ∥ Fit (figures_in result) ∥₁ }
 {
     if bad_counts(members, securities) {
         return Err(HouseFault::BadCounts);

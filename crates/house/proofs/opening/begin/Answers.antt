@@ -1,13 +1,14 @@
-use Rattle.std.proofs.Common.{◌≡◌, true, false, not, sym, ap, ◌∙◌, subst}
+use Rattle.std.proofs.Common.{◌≡◌, true, false, not, refl, sym, ap, ◌∙◌, subst}
 use Rattle.std.proofs.lemmas.Bool.{cond-false}
 use Rattle.rules.specs.Faults.{accepted}
 use Rattle.rules.specs.Events.{open_answer, suits}
+use Rattle.rules.specs.Fit.{Fit}
 use Rattle.house.specs.Opened.{Opened, bad_counts}
-use Rattle.house.proofs.Emptiness.{opens}
+use Rattle.house.proofs.Emptiness.{opened_fit, opens}
 use Rattle.house.proofs.opening.begin.Goals as goal
 
-pub returns : goal.returns
-returns g c good =
+pub returns-clause-opened : goal.returns-clause-opened
+returns-clause-opened g c good =
     let b = g.B.Book.ledger c.args.book.now in
     let m = c.args.members in
     let s = c.args.securities in
@@ -18,3 +19,13 @@ returns g c good =
       answer = answer;
       opened = λ _. subst (Opened b m s) (sym c.new_figures.ensures) (opens b m s (g.B.Book.sound c.args.book.now good) answer);
     }
+
+pub returns-clause-fit : goal.returns-clause-fit
+returns-clause-fit g c = ∣ subst Fit (sym c.new_figures.ensures) (opened_fit c.args.members c.args.securities (sym c.bad_counts.ensures ∙ c.if-bad_counts.false)) ∣₁
+
+-- A house that is refused has the figures of one member and one security.
+pub returns-then-bad_counts-clause-fit : goal.returns-then-bad_counts-clause-fit
+returns-then-bad_counts-clause-fit g c = ∣ opened_fit 1 1 refl ∣₁
+
+pub returns-then-not-suits-clause-fit : goal.returns-then-not-suits-clause-fit
+returns-then-not-suits-clause-fit g c = ∣ opened_fit 1 1 refl ∣₁

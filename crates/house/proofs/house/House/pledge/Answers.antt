@@ -1,0 +1,5 @@
+use Rattle.house.proofs.Same.{same_house}
+use Rattle.house.proofs.house.House.pledge.Goals as goal
+
+pub same-self : goal.same-self
+same-self g c = same_house _ _
