@@ -1,6 +1,7 @@
 mod Brought
-mod Emptiness
+pub mod Emptiness
 mod Kept
 mod Made
 mod Novated
+pub mod Passing
 mod Same

@@ -5,10 +5,13 @@ ghost use Rattle.desk.specs.Passed.{state_of};
 ghost use Rattle.statement.specs.Rows.{cash_on, escrowed_amount, guarantee_text, holdings_text, member_text, own_amount, own_text, row_text, settled_amount};
 
 use book::Book;
-use desk::accounts::{CASH, Own, Purse};
+use desk::accounts::{CASH, Purse};
 use house::house::House;
 use rank::Rank;
 use std::alloc::{AllocError, Global};
+
+// An account of the house itself.
+pub use desk::accounts::Own;
 
 // So many amounts, from a place up to another, each after a space.
 pub(crate) fn row<F: Fn(u8) -> u64>(

@@ -1,1 +1,1 @@
-mod Trades
+pub mod Trades
