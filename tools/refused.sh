@@ -90,7 +90,7 @@ refused used_twice borrow-e0382 'let mut entries = good.entries(); let _ = entri
 refused copied borrow-e0382 'let copy = good; let mut entries = good.entries(); let _ = entries.next(); let mut again = copy.entries(); again.next()'
 refused cloned unknown-method 'let copy = good.clone(); let mut entries = copy.entries(); entries.next()'
 refused forged private-field 'let forged = CheckedFeed { bytes: b"" }; let mut entries = forged.entries(); entries.next()'
-refused forged_entries private-field 'let mut forged = Entries { reader: good.entries().reader }; forged.next()'
+refused forged_entries private-field 'let mut forged = Entries { reader: good.entries().reader }; forged.reader.bytes = b""; forged.reader.place = 0; forged.next()'
 unproved made_unchecked checked-requires 'let mut entries = raw.checked().entries(); entries.next()'
 unproved made_refused checked-requires 'if raw.check().is_ok() { return None; } let mut entries = raw.checked().entries(); entries.next()'
 echo "refused.sh: all as expected"

@@ -1,7 +1,8 @@
 #![tactic(auto)]
 
-ghost use Rattle.std.specs.Prelude.{◌≡◌, ◌<◌};
+ghost use Rattle.std.specs.Prelude.{◌≡◌, ◌<◌, Some};
 ghost use Rattle.feed.specs.Format.{verdict};
+ghost use Rattle.feed_cases.specs.Codes.{shown};
 
 use feed::fault::FeedFault;
 use feed::feed::RawFeed;
@@ -19,10 +20,15 @@ const LENGTH: usize = 50;
 struct Answer(Result<(), FeedFault>);
 
 impl fmt::Display for Answer {
+    ghost output = { λ answer. Some (shown answer.0) };
+
     fn fmt<W: fmt::Write>(&self, f: &mut fmt::Formatter<W>) -> fmt::Result {
         match self.0 {
             Ok(()) => write!(f, "ok"),
-            Err(fault) => write!(f, "{}", fault.number()),
+            Err(fault) => {
+                let number = fault.number();
+                write!(f, "{number}")
+            }
         }
     }
 }

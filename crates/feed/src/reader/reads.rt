@@ -46,6 +46,13 @@ impl<'a> Reader<'a> {
         Ok(*bytes.as_array().unwrap())
     }
 
+    /// A number of 32 bits.
+    fn word(&mut self) -> Result<u32, FeedFault>
+        ensures { Step itself (number 4) self.old self.new result }
+    {
+        Ok(u32::from_be_bytes(self.fixed()?))
+    }
+
     fn flag(&mut self) -> Result<Flag, FeedFault>
         ensures { Step itself flag_of self.old self.new result }
     {
@@ -74,8 +81,8 @@ impl<'a> Reader<'a> {
         let seller = u8::from_be_bytes(self.fixed()?);
         let seller_flag = self.flag()?;
         let security = u8::from_be_bytes(self.fixed()?);
-        let quantity = u32::from_be_bytes(self.fixed()?);
-        let price = u32::from_be_bytes(self.fixed()?);
+        let quantity = self.word()?;
+        let price = self.word()?;
         Ok(Some(Entry::Trade {
             reference,
             buyer,
@@ -93,7 +100,7 @@ impl<'a> Reader<'a> {
         ensures { Step told_if_any close_of self.old self.new result }
     {
         let security = u8::from_be_bytes(self.fixed()?);
-        let price = u32::from_be_bytes(self.fixed()?);
+        let price = self.word()?;
         Ok(Some(Entry::Close { security, price }))
     }
 
