@@ -1,5 +1,6 @@
 // What a house looks at before it acts.
-ghost use Rattle.std.specs.Prelude.{◌≡◌, ◌≤◌, IfOk};
+ghost use Rattle.std.specs.Prelude.{◌≡◌, ◌≤◌, IfOk, not};
+ghost use Rattle.book.specs.Faults.{from_one_to};
 ghost use Rattle.rules.specs.declared.fault.HouseFault.TheVariants.{NoMember, NoAsset, NoFlag, BadAmount};
 ghost use Rattle.rules.specs.Events.{no_such_member, no_such_security, no_such_asset, no_such_flag, bad_amount, bad_quantity, bad_price};
 ghost use Rattle.rules.specs.Limits.{most_securities};
@@ -8,7 +9,7 @@ ghost use Rattle.desk.specs.Refusing.{RefusedIf};
 use crate::accounts::MemberId;
 use register::line::MOST_QUANTITY;
 use rules::fault::HouseFault;
-use rules::figures::Figures;
+use rules::figures::{Figures, Size};
 
 // The largest amount of one movement, and the highest price of a share.
 const MOST_AMOUNT: u64 = 1_000_000_000_000_000;
@@ -22,25 +23,41 @@ pub struct SecurityId {
     ghost known: { number ≤ most_securities },
 }
 
-// Members are numbered from 1.
+// Members are numbered from 1. Of a house's figures its size alone is asked.
+pub fn judge_member(size: Size, member: u8) -> Result<(), HouseFault>
+    ensures { RefusedIf NoMember (not (from_one_to size.members member)) result }
+{
+    if member == 0 || member > size.members {
+        return Err(HouseFault::NoMember);
+    }
+    Ok(())
+}
+
+// Securities are numbered from 1.
+pub fn judge_security(size: Size, security: u8) -> Result<(), HouseFault>
+    ensures { RefusedIf NoAsset (not (from_one_to size.securities security)) result }
+{
+    if security == 0 || security > size.securities {
+        return Err(HouseFault::NoAsset);
+    }
+    Ok(())
+}
+
+// Looks a member up.
 pub fn known_member(f: &Figures, member: u8) -> Result<MemberId, HouseFault>
     ensures answer { RefusedIf NoMember (no_such_member f.now member) result }
     ensures number { IfOk result (λ m. m.number ≡ member) }
 {
-    if member == 0 || member > f.size.members {
-        return Err(HouseFault::NoMember);
-    }
+    judge_member(f.size, member)?;
     Ok(MemberId { number: member })
 }
 
-// Securities are numbered from 1.
+// Looks a security up.
 pub fn known_security(f: &Figures, security: u8) -> Result<SecurityId, HouseFault>
     ensures answer { RefusedIf NoAsset (no_such_security f.now security) result }
     ensures number { IfOk result (λ s. s.number ≡ security) }
 {
-    if security == 0 || security > f.size.securities {
-        return Err(HouseFault::NoAsset);
-    }
+    judge_security(f.size, security)?;
     Ok(SecurityId { number: security })
 }
 

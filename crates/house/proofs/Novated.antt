@@ -38,7 +38,7 @@ novated rank f f' t b w e left c = record {
 
 -- So it is told of a house that was opened.
 pub novated_told : {B R : Type 0} (good : B → Type 0) (ledger : B → Ledger) (goes : R → Before) (h : Seen B R) (b : B) (r : R) (o : Result Figures HouseFault)
-    (fit : ∥ Fit (figures_in o) ∥₁) (f f' : Figures) (fit' : ∥ Fit f' ∥₁) (t : Trade) (w : Answer)
+    (fit : Fit (figures_in o)) (f f' : Figures) (fit' : Fit f') (t : Trade) (w : Answer)
     → house_of b r o fit ≡ h → o ≡ Ok f → w ≡ novate_judged f t → f' ≡ (if is_accepted w then figures_traded f t else f)
     → Told good ledger goes (Novate t) h w (house_of b r (Ok f') fit')
 novated_told good ledger goes h b r o fit f f' fit' t w is stood e left =

@@ -17,7 +17,7 @@ pub record Seen (B R : Type 0) : Type 0 where
   pub rank : R
   pub refusal : Option HouseFault
   pub figures : Figures
-  pub fit : ∥ Fit figures ∥₁
+  pub fit : Fit figures
 
 abbrev pub refusal_in : Result Figures HouseFault → Option HouseFault
 refusal_in (Ok f) = None
@@ -27,7 +27,7 @@ abbrev pub figures_in : Result Figures HouseFault → Figures
 figures_in (Ok f) = f
 figures_in (Err x) = opened_figures 1 1
 
-abbrev pub house_of : {B R : Type 0} → B → R → (s : Result Figures HouseFault) → ∥ Fit (figures_in s) ∥₁ → Seen B R
+abbrev pub house_of : {B R : Type 0} → B → R → (s : Result Figures HouseFault) → Fit (figures_in s) → Seen B R
 house_of b r s fit = record { book = b; rank = r; refusal = refusal_in s; figures = figures_in s; fit = fit }
 
 -- How a house h over a good book is told of an event: it answers w and is h' afterwards, over a good book, with its rank and its refusal.

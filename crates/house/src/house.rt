@@ -1,5 +1,6 @@
 // A house.
 ghost use Rattle.rules.specs.Fit.{Fit};
+ghost use Rattle.rules.proofs.FitProp.{fit_prop};
 ghost use Rattle.house.specs.Seen.{figures_in};
 
 use book::Book;
@@ -14,7 +15,7 @@ pub struct House<B: Book, R: Rank> {
     pub(crate) book: B,
     pub(crate) rank: R,
     pub(crate) state: Result<Figures, HouseFault>,
-    ghost fit: { ∥ Fit (figures_in state) ∥₁ },
+    ghost fit: { Fit (figures_in state) } by { fit_prop (figures_in state) },
 }
 
 impl<B: Book, R: Rank> Model for House<B, R> {

@@ -61,7 +61,7 @@ fn suits<B: Book>(book: &B, members: u8, securities: u8) -> bool
 // The figures of a house of these counts over a book, or why it is refused.
 fn begin<B: Book>(book: &B, members: u8, securities: u8) -> Result<Figures, HouseFault>
     ensures opened { B.good book.now → OpenedBy (B.ledger book.now) members securities (refusal_in result) (figures_in result) }
-    ensures fit { ∥ Fit (figures_in result) ∥₁ }
+    ensures fit { Fit (figures_in result) }
 {
     if bad_counts(members, securities) {
         return Err(HouseFault::BadCounts);

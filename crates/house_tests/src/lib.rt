@@ -4,4 +4,6 @@
 #[cfg(test)]
 mod full;
 #[cfg(test)]
+mod sums;
+#[cfg(test)]
 mod tests;

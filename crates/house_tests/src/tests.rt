@@ -25,12 +25,12 @@ fn told(answer: Result<u64, HouseFault>) -> u64 {
 }
 
 // A house of two members and one security.
-fn small() -> Result<House<Table, Annex>, Fail> {
+pub(crate) fn small() -> Result<House<Table, Annex>, Fail> {
     Ok(House::open(Table::new(Counts::new(9, 2)?), RANK, 2, 1))
 }
 
 // A trade in security 1.
-fn trade(buyer: u8, buyer_flag: u8, seller: u8, quantity: u32, price: u32) -> Trade {
+pub(crate) fn trade(buyer: u8, buyer_flag: u8, seller: u8, quantity: u32, price: u32) -> Trade {
     Trade {
         buyer,
         buyer_flag,

@@ -24,26 +24,29 @@ fn position_of(lines: &[Line], key: Key) -> Option<usize>
     lines.iter().position(|line| same_key(line.claim.key, key))
 }
 
-// The nearer of two lines whose keys have a number from a number on: the one with the smaller number, and of two with the
-// same the first. The first may be none.
-fn nearer(number: u64, best: Option<Line>, line: &Line) -> Option<Line>
-    ensures { result ≡ nearer number best line.now }
+// Whether a line is nearer than the best before it, which may be none: its key's number is from a number on, and smaller than
+// that of the best.
+fn is_nearer(number: u64, best: &Option<Line>, line: &Line) -> bool
+    ensures { nearer number best.now line.now ≡ (if result then Some line.now else best.now) }
 {
     let here = line.claim.key.number();
     match best {
-        Some(best) if here < number || best.claim.key.number() <= here => Some(best),
-        None if here < number => None,
-        _ => Some(*line),
+        Some(best) if best.claim.key.number() <= here => false,
+        _ => here >= number,
     }
 }
 
-// Of some lines, the nearest whose key has a number from a number on.
+// Of some lines, the nearest whose key has a number from a number on; of two with the same number the first.
 fn nearest(lines: &[Line], number: u64) -> Option<Line>
     ensures { result ≡ nearest number lines.now }
 {
-    lines
-        .iter()
-        .fold(None, |best, line| nearer(number, best, line))
+    let mut best = None;
+    for line in lines {
+        if is_nearer(number, &best, line) {
+            best = Some(*line);
+        }
+    }
+    best
 }
 
 impl Register {
@@ -82,6 +85,7 @@ impl Register {
 
     // The line whose key has the smallest number from a number on.
     // Asked again from the next number, it lists all lines by rising key.
+    #[tactic(auto, using(crate::proofs::Listed::nearest_listed))]
     pub fn line_from(&self, number: u64) -> Option<Line>
         ensures { result ≡ line_from self.now number }
     {

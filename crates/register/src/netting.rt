@@ -53,13 +53,15 @@ impl Register {
         }
     }
 
-    // Nets one side of a trade into the line of a key.
+    // Nets one side of a trade into the line of a key. A line that is there is looked for once.
     fn net_side(&mut self, side: Side, key: Key, deal: Deal)
         requires { Nettable self.old key }
         ensures { self.new ≡ filed self.old key (traded_line side (line_of self.old key) deal.trade.quantity deal.trade.price) }
     {
-        let line = self.line_or_blank(key).traded(side, deal);
-        self.file(key, line);
+        match self.place(key) {
+            Some(place) => self.lines[place] = self.lines[place].traded(side, deal),
+            None => self.file(key, Line::blank(key).traded(side, deal)),
+        }
     }
 
     // Nets the buyer's side of a trade. The seller's can follow.

@@ -1,4 +1,4 @@
--- The bounds of the figures are a proposition, so that what a ghost field has of them can be taken out again.
+-- The bounds of the figures are a proposition.
 use Rattle.std.proofs.Common.{◌≡◌, ℕ, ◌<◌, ◌≤◌, pos}
 use mathlib.Core.Logic.{∥∥₁_elim}
 use denote.Struct.Props.{props}
@@ -82,8 +82,10 @@ bounds_prop f p q = λ i. record {
   escrow = λ m t. at_most (p.escrow m t) (q.escrow m t) i;
 }
 
-fit_prop : (f : Figures) → IsProp (Fit f)
+-- So a ghost field may hold them as they are.
+pub fit_prop : (f : Figures) → IsProp (Fit f)
 fit_prop f p q = λ i. record { bounds = bounds_prop f p.bounds q.bounds i; fails = at_most p.fails q.fails i }
 
+-- What says only that they hold gives them.
 pub fit_out : (f : Figures) → ∥ Fit f ∥₁ → Fit f
 fit_out f t = ∥∥₁_elim t (fit_prop f) (λ ok. ok)

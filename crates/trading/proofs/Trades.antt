@@ -1,16 +1,19 @@
 -- What a house knows of a trade that it has judged, and of its register before it nets one.
-use Rattle.std.proofs.Common.{◌≡◌, ℕ, true, false, cond, List, [], ◌∷◌, ◌++◌, Err, Result, sym, refl, ap, ◌∙◌, subst, ⊎_elim, arith}
+use Rattle.std.proofs.Common.{◌≡◌, ℕ, ◌≤◌, true, false, cond, not, List, [], ◌∷◌, ◌++◌, Err, Result, sym, refl, ap, ◌∙◌, subst, ⊎_elim, arith}
 use Rattle.std.specs.List.{AllByRecursion}
-use Rattle.std.proofs.lemmas.Bool.{cases_Bool, true≢false, ltb-false, cond-true, cond-false}
+use Rattle.std.proofs.lemmas.Bool.{cases_Bool, true≢false, and_parts, or_parts, not-false, leb-true, ltb-false, cond-true, cond-false}
 use Rattle.book.specs.Refusals.{Refusal}
+use Rattle.book.specs.Faults.{from_one_to}
 use Rattle.register.specs.declared.trade.Trade.{Trade}
 use Rattle.register.specs.declared.Register.{Register}
 use Rattle.register.specs.Fits.{AllSized, Room}
+use Rattle.register.specs.Limits.{most_quantity, most_price}
 use Rattle.register.specs.Netting.{due_day, trade_filed}
 use Rattle.rules.specs.declared.event.Event.TheVariants.{Novate}
 use Rattle.rules.specs.declared.fault.HouseFault.{HouseFault}
 use Rattle.rules.specs.declared.figures.Figures.{Figures}
 use Rattle.rules.specs.Faults.{accepted, refusal, answer_by, answer_of, is_accepted}
+use Rattle.rules.specs.Limits.{most_members}
 use Rattle.rules.specs.State.{today, with_register}
 use Rattle.rules.specs.Events.{trade_refusals, netting_refusals}
 use Rattle.rules.specs.Fit.{Fit}
@@ -21,6 +24,31 @@ use Rattle.trading.specs.Traded.{trade_judged, netting_judged, novate_judged, fi
 pub lines_sized : (f : Figures) → Fit f → AllSized f.register
 lines_sized f fit i l =
     let fits = fit.bounds.lines i l in let q = fits.quantity in let m = fits.money in record { quantity = omega arith; money = omega arith }
+
+-- A trade that is sound as such, by the size of a house, is between its members, and within the limits of a trade.
+pub record SoundTrade (t : Trade) : Type 0 where
+  pub buyer : t.buyer ≤ most_members
+  pub seller : t.seller ≤ most_members
+  pub quantity : t.quantity ≤ most_quantity
+  pub price : t.price ≤ most_price
+
+within : (most n : ℕ) → not (from_one_to most n) ≡ false → n ≤ most
+within most n e = leb-true _ _ (and_parts _ _ (not-false _ e)).1
+
+pub trade_sound : (f : Figures) (t : Trade) → Fit f → ((g : Figures) → g.size ≡ f.size → accepted ≡ trade_judged g t) → SoundTrade t
+trade_sound f t fit e =
+    let few = fit.bounds.shape.few_members in
+    let a = none_applies (trade_refusals f t []) (ap is_accepted (sym (e f refl))) in
+    let m = or_parts _ _ a.0 in
+    let n = or_parts _ _ a.1.1.1.0 in
+    let b = within f.size.members t.buyer m.0 in
+    let s = within f.size.members t.seller m.1 in
+    record {
+      buyer = omega arith;
+      seller = omega arith;
+      quantity = within most_quantity t.quantity n.0;
+      price = within most_price t.price n.1;
+    }
 
 -- Where the netting refuses nothing, both sides of the trade have a place.
 pub room_found : (f : Figures) (t : Trade) → netting_judged f t ≡ accepted → Room f.register (due_day (today f)) t

@@ -3,17 +3,18 @@ ghost use Rattle.std.specs.Prelude.{◌≡◌, ◌≤◌, ◌||◌, IfOk, nat_lt
 ghost use Rattle.register.specs.Fits.{Room};
 ghost use Rattle.register.specs.Limits.{most_quantity, most_price, register_places};
 ghost use Rattle.register.specs.Netting.{due_day, trade_too_large};
+ghost use Rattle.rules.specs.declared.figures.Figures.{Figures};
 ghost use Rattle.rules.specs.Events.{position_too_large, register_traded};
 ghost use Rattle.rules.specs.Faults.{answer_of};
 ghost use Rattle.rules.specs.State.{today};
 ghost use Rattle.trading.specs.Traded.{trade_judged, netting_judged};
 
 use desk::accounts::MemberId;
-use desk::judging::{judge_flag, judge_price, judge_quantity, known_member, known_security};
+use desk::judging::{judge_flag, judge_member, judge_price, judge_quantity, judge_security};
 use desk::standing::record_of;
 use register::trade::{Deal, Trade};
 use rules::fault::HouseFault;
-use rules::figures::Figures;
+use rules::figures::{Figures, Size};
 
 // A trade falls due so many days after its own.
 const DAYS_TO_DUE: u32 = 3;
@@ -48,22 +49,34 @@ pub fn position_too_large(f: &Figures, m: MemberId) -> bool
     record.position.unsigned_abs() + record.advances > MOST_POSITION
 }
 
-// What is wrong with a trade as such.
-pub fn judge_trade(f: &Figures, trade: Trade) -> Result<Judged, HouseFault>
-    ensures answer { answer_of result ≡ trade_judged f.now trade }
-    ensures trade { IfOk result (λ j. j.trade ≡ trade) }
+// What is wrong with a trade as such. Of a house's figures it asks the size alone, so the answer is that of all figures with
+// this size, whether or not they fit their bounds.
+pub fn judge_trade(size: Size, trade: Trade) -> Result<(), HouseFault>
+    ensures { (f : Figures) → f.size ≡ size → answer_of result ≡ trade_judged f trade }
 {
-    let buyer = known_member(f, trade.buyer)?;
-    let seller = known_member(f, trade.seller)?;
-    known_security(f, trade.security)?;
+    judge_member(size, trade.buyer)?;
+    judge_member(size, trade.seller)?;
+    judge_security(size, trade.security)?;
     judge_flag(trade.buyer_flag)?;
     judge_flag(trade.seller_flag)?;
     judge_quantity(trade.quantity)?;
-    judge_price(trade.price)?;
+    judge_price(trade.price)
+}
+
+// A trade that is sound as such, or what is wrong with it.
+pub fn sound_trade(f: &Figures, trade: Trade) -> Result<Judged, HouseFault>
+    ensures answer { answer_of result ≡ trade_judged f.now trade }
+    ensures trade { IfOk result (λ j. j.trade ≡ trade) }
+{
+    judge_trade(f.size, trade)?;
     Ok(Judged {
         trade,
-        buyer,
-        seller,
+        buyer: MemberId {
+            number: trade.buyer,
+        },
+        seller: MemberId {
+            number: trade.seller,
+        },
     })
 }
 

@@ -3,7 +3,7 @@ ghost use Rattle.std.specs.Prelude.{◌≡◌, if◌then◌else◌};
 ghost use Rattle.rules.specs.Faults.{accepted, answer_of, is_accepted};
 ghost use Rattle.trading.specs.Traded.{trade_judged, netting_judged, novate_judged, figures_traded};
 
-use crate::judging::{Judged, deal_today, judge_netting, judge_trade};
+use crate::judging::{Judged, deal_today, judge_netting, sound_trade};
 use register::trade::Trade;
 use rules::fault::HouseFault;
 use rules::figures::Figures;
@@ -34,6 +34,6 @@ pub fn novate(f: &mut Figures, trade: Trade) -> Result<(), HouseFault>
     ensures answer { answer_of result ≡ novate_judged f.old trade }
     ensures figures { f.new ≡ (if is_accepted (answer_of result) then figures_traded f.old trade else f.old) }
 {
-    let judged = judge_trade(f, trade)?;
+    let judged = sound_trade(f, trade)?;
     net_judged(f, judged)
 }

@@ -21,11 +21,11 @@ returns-clause-opened g c good =
     }
 
 pub returns-clause-fit : goal.returns-clause-fit
-returns-clause-fit g c = ∣ subst Fit (sym c.new_figures.ensures) (opened_fit c.args.members c.args.securities (sym c.bad_counts.ensures ∙ c.if-bad_counts.false)) ∣₁
+returns-clause-fit g c = subst Fit (sym c.new_figures.ensures) (opened_fit c.args.members c.args.securities (sym c.bad_counts.ensures ∙ c.if-bad_counts.false))
 
 -- A house that is refused has the figures of one member and one security.
 pub returns-then-bad_counts-clause-fit : goal.returns-then-bad_counts-clause-fit
-returns-then-bad_counts-clause-fit g c = ∣ opened_fit 1 1 refl ∣₁
+returns-then-bad_counts-clause-fit g c = opened_fit 1 1 refl
 
 pub returns-then-not-suits-clause-fit : goal.returns-then-not-suits-clause-fit
-returns-then-not-suits-clause-fit g c = ∣ opened_fit 1 1 refl ∣₁
+returns-then-not-suits-clause-fit g c = opened_fit 1 1 refl
