@@ -45,7 +45,7 @@ pub enum Purse {
     Contribution = 2,
 }
 
-// A member that was looked up: its number is one that a house may have.
+// A member: its number is one that a house may have.
 #[derive(Clone, Copy)]
 pub struct MemberId {
     pub number: u8,

@@ -16,7 +16,7 @@ const MOST_AMOUNT: u64 = 1_000_000_000_000_000;
 
 const MOST_PRICE: u32 = 1_000_000;
 
-// A security that was looked up: its number is one that a house may have.
+// A security: its number is one that a house may have.
 #[derive(Clone, Copy)]
 pub struct SecurityId {
     pub number: u8,

@@ -22,7 +22,7 @@ const DAYS_TO_DUE: u32 = 3;
 // A party whose position and advances are larger trades no more.
 const MOST_POSITION: u64 = 1_000_000_000_000_000;
 
-// A trade that is sound as such: its parties were looked up, its quantity and its price are within their limits.
+// A trade that is sound as such: with its parties, its quantity and its price within their limits.
 #[derive(Clone, Copy)]
 pub struct Judged {
     pub trade: Trade,
