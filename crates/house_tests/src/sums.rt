@@ -1,5 +1,6 @@
 // Sums and differences of what a house answers. That none of them passes its type is shown from the bounds of the figures,
-// which every house keeps and its callers see: no function here tests for it, or has a proof of its own.
+// which every house keeps and its callers see (of `places` from what the two calls tell alone): no function here tests for
+// it, or has a proof of its own.
 use crate::tests::{small, trade};
 use book::Book;
 use house::house::House;
