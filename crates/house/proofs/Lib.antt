@@ -4,4 +4,4 @@ mod Kept
 mod Made
 mod Novated
 pub mod Passing
-mod Same
+pub mod Same

@@ -2,6 +2,8 @@
 #![tactic(auto)]
 
 #[cfg(test)]
+mod by_type;
+#[cfg(test)]
 mod full;
 #[cfg(test)]
 mod sums;

@@ -3,3 +3,4 @@ pub mod Trades
 mod Listed
 mod Flags
 pub mod Packing
+pub mod Shapes

@@ -1,17 +1,26 @@
--- What the netting of a trade leans on: sums that stay within their types, and a place for each line.
-use Rattle.std.specs.Prelude.{◌≡◌, ℕ, ◌*◌, ◌<◌, ◌≤◌, length, unsigned_abs}
+-- What the type of a register says of it, and what the netting of a trade leans on: sums that stay within their types, and a place
+-- for each line.
+use Rattle.std.specs.Prelude.{◌≡◌, ℕ, ◌*◌, ◌<◌, ◌≤◌, length, take, unsigned_abs}
 use Rattle.rank.specs.declared.key.Key.{Key}
 use Rattle.register.specs.declared.line.Line.{Line}
 use Rattle.register.specs.declared.trade.Trade.{Trade}
 use Rattle.register.specs.declared.Register.{Register}
 use Rattle.register.specs.Limits.{most_quantity, most_money, register_places}
-use Rattle.register.specs.Lines.{line}
+use Rattle.register.specs.Lines.{no_line, line}
+use Rattle.register.specs.Dropping.{register_of}
 use Rattle.register.specs.Netting.{place_of, line_of, trade_filed}
 
 -- All places are there, and no more lines than places: every place of a line can be read and written.
 pub record Tabled (g : Register) : Type 0 where
   pub places : length g.lines ≡ register_places
   pub few : g.count ≤ register_places
+
+-- What the type of a register says of it: all that, and that the places behind its lines are empty; in other words that it is the
+-- register of its lines, which stands here too, so that a search finds either.
+pub record Shaped (g : Register) : Type 0 where
+  pub table : Tabled g
+  pub behind : (i : ℕ) → g.count ≤ i → line g i ≡ no_line
+  pub listed : g ≡ register_of (take g.count g.lines)
 
 -- The netted quantity and money of a line are at most so many times their limits: one more side of a trade stays within 64 bits.
 pub record Sized (n : ℕ) (l : Line) : Type 0 where

@@ -19,8 +19,8 @@ use std::marker::Model;
 
 pub const PLACES: usize = 512;
 
-// The lines of the house, in the order in which they were opened: the first `count` places. They lie in the register itself,
-// beside their count and in no vector, so that a register can be copied.
+// The lines of the house, in the order in which they were opened: the first `count` places; those behind are empty. They lie in
+// the register itself, beside their count and in no vector, so that a register can be copied.
 #[derive(Clone, Copy)]
 pub struct Register {
     count: usize,
@@ -32,13 +32,13 @@ impl Model for Register {
 
     ghost Value = { Places };
 
-    ghost use Rattle.register.specs.Fits.{Tabled};
+    ghost use Rattle.register.specs.Fits.{Shaped};
 
     ghost view = { λ r. record { count = r.count; lines = r.lines } };
 
     ghost inverse = { λ g. record { count = g.count; lines = g.lines } };
 
-    ghost invariant = { λ r. Tabled (record { count = r.count; lines = r.lines }) };
+    ghost invariant = { λ r. Shaped (record { count = r.count; lines = r.lines }) };
 }
 
 impl Register {

@@ -1,2 +1,3 @@
 pub mod Cells
 pub mod Moved
+pub mod Same

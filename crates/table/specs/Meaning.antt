@@ -1,17 +1,21 @@
 -- What a table means.
 use Rattle.std.specs.Prelude.{◌≡◌, ℕ, ◌<◌, not, [], ◌∷◌}
-use Rattle.book.specs.Ledger.{Ledger, Sound, most_space}
+use Rattle.book.specs.Ledger.{Ledger, Sound}
 use Rattle.book.specs.Refusals.{◌when◌}
 use Rattle.book.specs.Faults.{number_of}
 use Rattle.book.specs.declared.fault.BookFault.TheVariants.{NoAccount, NoAsset, BadAmount}
 use Rattle.book.specs.Movement.{Movement, no_account, no_asset, good_amount, movement_number, Carried}
 use Rattle.table.specs.declared.Table.{Table}
+use Rattle.table.specs.declared.grid.Grid.{Grid}
 use Rattle.table.specs.declared.rows.Place.{Place}
-use Rattle.table.specs.Rows.{cell}
+use Rattle.table.specs.Rows.{ledger}
 
--- Its space is always the same.
 abbrev pub meaning : Table → Ledger
-meaning t = record { accounts = t.accounts; assets = t.assets; space = most_space; held = cell t.rows }
+meaning t = ledger t.accounts t.assets t.rows
+
+-- What the counts and the rows of a table mean, sound or not.
+abbrev pub grid_meaning : Grid → Ledger
+grid_meaning g = ledger g.accounts g.assets g.rows
 
 -- The number of the first refusal that looks at the account, the asset or the amount alone; 0 where none applies.
 abbrev pub judged_number : Ledger → ℕ → ℕ → ℕ → ℕ
@@ -32,3 +36,8 @@ pub record IsPlaceOf (b : Ledger) (a s : ℕ) (place : Place) : Type 0 where
 pub record Kept (m : Movement) (b t : Table) : Type 0 where
   pub carried : Sound (meaning b) → movement_number (meaning b) m ≡ 0 → Carried m (meaning b) 0 (meaning t)
   pub stays : Sound (meaning b) → movement_number (meaning b) m ≡ 0 → Sound (meaning t)
+
+-- The same of ledgers, which may be those of no table.
+pub record KeptBy (m : Movement) (b t : Ledger) : Type 0 where
+  pub carried : Sound b → movement_number b m ≡ 0 → Carried m b 0 t
+  pub stays : Sound b → movement_number b m ≡ 0 → Sound t

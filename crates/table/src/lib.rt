@@ -1,30 +1,41 @@
 // The table: a book that keeps a number for each account and asset.
 #![tactic(auto)]
 
-ghost use Rattle.std.specs.Prelude.{◌≡◌, ◌<◌, ◌≤◌, IfOk, min};
-ghost use Rattle.book.specs.Ledger.{Empty, Sound, total, most_accounts, most_assets, most_space};
-ghost use Rattle.book.specs.Movement.{Put, Pull, Move, balance_number, movement_number};
-ghost use Rattle.book.specs.Faults.{answer_number};
-ghost use Rattle.table.specs.Rows.{most_number};
-ghost use Rattle.table.specs.Meaning.{meaning, judged_number, IsPlaceOf, Kept};
+ghost use Rattle.std.specs.Prelude.{◌≡◌};
+ghost use Rattle.book.specs.Ledger.{Empty, Sound, most_space};
+ghost use Rattle.table.specs.Meaning.{meaning, grid_meaning};
 
 use book::Book;
 use book::counts::Counts;
 use book::fault::BookFault;
 
+mod grid;
+#[cfg(test)]
+mod lent;
 mod rows;
 
-use rows::{ACCOUNTS, Place, Row, balance_at, empty_rows, write};
+use grid::Grid;
+use rows::balance_at;
+use std::marker::Model;
 
 // The largest amount of one movement, and the largest sum of an asset over all accounts.
 const MOST_AMOUNT: u64 = 1_000_000_000_000_000;
 
-// A book whose space never falls.
+// A book whose space never falls. Every table is sound.
 #[derive(Drop)]
 pub struct Table {
-    accounts: u8,
-    assets: u8,
-    rows: [Row; ACCOUNTS],
+    grid: Grid,
+    pub ghost sound: { Sound (grid_meaning grid) },
+}
+
+// Contracts see the counts, the rows and that these are sound. The model closes the ghost field, so that a table can stand beside
+// a lent one.
+impl Model for Table {
+    ghost use Rattle.table.specs.Rows.{Seen};
+
+    ghost Value = { Seen };
+
+    ghost view = { λ t. record { accounts = t.grid.accounts; assets = t.grid.assets; rows = t.grid.rows; sound = t.sound } };
 }
 
 impl Table {
@@ -34,7 +45,9 @@ impl Table {
         ensures space { (meaning result).space ≡ most_space }
         ensures good { Sound (meaning result) }
     {
-        Table::empty(counts.accounts(), counts.assets())
+        Table {
+            grid: Grid::empty(counts.accounts(), counts.assets()),
+        }
     }
 
     // The smallest table: one account and one asset.
@@ -43,95 +56,6 @@ impl Table {
         ensures good { Sound (meaning result) }
     {
         Table::new(Counts::new(1, 1).unwrap())
-    }
-
-    fn empty(accounts: u8, assets: u8) -> Table
-        ensures empty { Empty accounts assets (meaning result) }
-        ensures good { 0 < accounts → accounts ≤ most_accounts → 0 < assets → assets ≤ most_assets → Sound (meaning result) }
-    {
-        let rows = empty_rows();
-        Table {
-            accounts,
-            assets,
-            rows,
-        }
-    }
-
-    // Where an account's balance of an asset stands.
-    fn place(&self, account: u8, asset: u8) -> Result<Place, BookFault>
-        ensures answer { answer_number result ≡ balance_number (meaning self.now) account asset }
-        ensures place { IfOk result (IsPlaceOf (meaning self.now) account asset) }
-    {
-        if account >= self.accounts {
-            return Err(BookFault::NoAccount);
-        }
-        if asset >= self.assets {
-            return Err(BookFault::NoAsset);
-        }
-        Ok(Place { account, asset })
-    }
-
-    // The same for a movement of an amount, which is looked at last.
-    fn judge(&self, account: u8, asset: u8, amount: u64) -> Result<Place, BookFault>
-        ensures answer { answer_number result ≡ judged_number (meaning self.now) account asset amount }
-        ensures place { IfOk result (IsPlaceOf (meaning self.now) account asset) }
-    {
-        let place = self.place(account, asset)?;
-        if (1..=MOST_AMOUNT).contains(&amount) {
-            Ok(place)
-        } else {
-            Err(BookFault::BadAmount)
-        }
-    }
-
-    // The same for an amount that the account has to hold.
-    fn source(&self, account: u8, asset: u8, amount: u64) -> Result<Place, BookFault>
-        ensures answer { answer_number result ≡ movement_number (meaning self.now) (Pull account asset amount) }
-        ensures place { IfOk result (IsPlaceOf (meaning self.now) account asset) }
-    {
-        let place = self.judge(account, asset, amount)?;
-        if balance_at(&self.rows, place) < amount {
-            return Err(BookFault::TooLittle);
-        }
-        Ok(place)
-    }
-
-    // The sum of an asset over all accounts, or the largest number where it is more than that.
-    fn total(&self, asset: u8) -> u64
-        ensures { result ≡ min (total (meaning self.now) asset) most_number }
-    {
-        let used = self.rows.iter().take(usize::from(self.accounts));
-        used.map(|row| row.get(asset)).fold(0, u64::saturating_add)
-    }
-
-    // Raises a balance.
-    fn credit(&mut self, place: Place, amount: u64)
-        ensures { Kept (Put place.account place.asset amount) self.old self.new }
-    {
-        let held = balance_at(&self.rows, place);
-        write(&mut self.rows, place, held.saturating_add(amount));
-    }
-
-    // Lowers a balance.
-    fn debit(&mut self, place: Place, amount: u64)
-        ensures { Kept (Pull place.account place.asset amount) self.old self.new }
-    {
-        let held = balance_at(&self.rows, place);
-        write(&mut self.rows, place, held.saturating_sub(amount));
-    }
-
-    // Lowers one balance and raises another account's.
-    fn carry(&mut self, from: Place, to: u8, amount: u64)
-        ensures { Kept (Move from.account to from.asset amount) self.old self.new }
-    {
-        let to = Place {
-            account: to,
-            ..from
-        };
-        let held = balance_at(&self.rows, from);
-        let there = balance_at(&self.rows, to);
-        write(&mut self.rows, from, held.saturating_sub(amount));
-        write(&mut self.rows, to, there.saturating_add(amount));
     }
 }
 
@@ -143,11 +67,11 @@ impl Book for Table {
     ghost sound = { λ t h. h };
 
     fn accounts(&self) -> u8 {
-        self.accounts
+        self.grid.accounts
     }
 
     fn assets(&self) -> u8 {
-        self.assets
+        self.grid.assets
     }
 
     fn space(&self) -> u32 {
@@ -155,31 +79,31 @@ impl Book for Table {
     }
 
     fn balance(&self, account: u8, asset: u8) -> Result<u64, BookFault> {
-        let place = self.place(account, asset)?;
-        Ok(balance_at(&self.rows, place))
+        let place = self.grid.place(account, asset)?;
+        Ok(balance_at(&self.grid.rows, place))
     }
 
     fn put(&mut self, account: u8, asset: u8, amount: u64) -> Result<(), BookFault> {
-        let place = self.judge(account, asset, amount)?;
-        if self.total(asset).saturating_add(amount) > MOST_AMOUNT {
+        let place = self.grid.judge(account, asset, amount)?;
+        if self.grid.total(asset).saturating_add(amount) > MOST_AMOUNT {
             return Err(BookFault::TooMuch);
         }
-        self.credit(place, amount);
+        self.grid.credit(place, amount);
         Ok(())
     }
 
     fn pull(&mut self, account: u8, asset: u8, amount: u64) -> Result<(), BookFault> {
-        let place = self.source(account, asset, amount)?;
-        self.debit(place, amount);
+        let place = self.grid.source(account, asset, amount)?;
+        self.grid.debit(place, amount);
         Ok(())
     }
 
     fn transfer(&mut self, from: u8, to: u8, asset: u8, amount: u64) -> Result<(), BookFault> {
-        if to >= self.accounts || from == to {
+        if to >= self.grid.accounts || from == to {
             return Err(BookFault::NoAccount);
         }
-        let place = self.source(from, asset, amount)?;
-        self.carry(place, to, amount);
+        let place = self.grid.source(from, asset, amount)?;
+        self.grid.carry(place, to, amount);
         Ok(())
     }
 }

@@ -11,7 +11,7 @@ use Rattle.register.proofs.Register.count_after.Goals as goal
 pub overflow_add-result : goal.overflow_add-result
 overflow_add-result c =
     let a = new_few c.args.self.now c.key.result c.key-2.result in
-    let b = c.self.invariant.few in
+    let b = c.self.invariant.table.few in
     search rules
 
 pub returns : goal.returns
@@ -21,4 +21,4 @@ returns c =
     ∙ (ap (λ n. ltb register_places (g.count + n)) c.new_lines.ensures
     ∙ (ap (λ (k : Key). ltb register_places (g.count + new_lines g k c.key-2.result)) c.key.ensures
     ∙ (ap (λ (k : Key). ltb register_places (g.count + new_lines g (buyer_key c.args.due c.args.trade) k)) c.key-2.ensures
-    ∙ count_lacks g c.args.due c.args.trade (subst Tabled c.self.view_is c.self.invariant))))
+    ∙ count_lacks g c.args.due c.args.trade (subst Tabled c.self.view_is c.self.invariant.table))))

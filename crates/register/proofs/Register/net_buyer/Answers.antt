@@ -9,14 +9,14 @@ pub net_side-requires : goal.net_side-requires
 net_side-requires c =
     let g = c.args.self.now in
     let d = c.args.deal in
-    let table = subst Tabled c.self.view_is c.self.invariant in
+    let table = subst Tabled c.self.view_is c.self.invariant.table in
     subst (Nettable g) (sym c.key.ensures) (buyer_nettable g d.due d.trade table c.requires.room c.requires.lines d.quantity d.price)
 
 pub returns : goal.returns
 returns c =
     let g = c.args.self.now in
     let d = c.args.deal in
-    let table = subst Tabled c.self.view_is c.self.invariant in
+    let table = subst Tabled c.self.view_is c.self.invariant.table in
     let e = half_from g d.due d.trade c.net_side.new.self c.key.result c.key.ensures c.net_side.ensures in
     let n = seller_nettable g d.due d.trade table c.requires.room c.requires.lines d.quantity d.price in
     record { filed = e; next = subst (λ (h : Register). Nettable h (seller_key d.due d.trade)) (sym e) n }

@@ -4,7 +4,7 @@ use Rattle.register.proofs.Packing.{packed_none, packed_more}
 use Rattle.register.proofs.Register.pack.Goals as goal
 
 pub loop-place-init : goal.loop-place-init
-loop-place-init c = packed_none c.args.day c.args.self.now (subst Tabled c.self.view_is c.self.invariant)
+loop-place-init c = packed_none c.args.day c.args.self.now (subst Tabled c.self.view_is c.self.invariant.table)
 
 pub loop-place-preserved : goal.loop-place-preserved
 loop-place-preserved c =

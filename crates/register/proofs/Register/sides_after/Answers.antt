@@ -17,7 +17,7 @@ returns c =
     let g = c.args.self.now in
     let t = c.args.deal.trade in
     let d = c.args.deal.due in
-    let table = subst Tabled c.self.view_is c.self.invariant in
+    let table = subst Tabled c.self.view_is c.self.invariant.table in
     let e = sides_from g d t c.netted_sides.result c.key-buyer.result c.key-seller.result
     c.same_key.result c.line_or_blank.result c.line_or_blank-2.result
     c.key-buyer.ensures c.key-seller.ensures c.same_key.ensures c.line_or_blank.ensures c.line_or_blank-2.ensures

@@ -2,11 +2,10 @@ use Rattle.std.proofs.Common.{◌≡◌, ◌+◌, ◌-◌, refl, ap, ◌∙◌, 
 use Rattle.book.specs.Ledger.{Balances, with_held}
 use Rattle.book.specs.Movement.{Move}
 use Rattle.book.proofs.Accepted.{move_accepted}
-use Rattle.book.proofs.Sums.{term_within_sum}
-use Rattle.table.specs.Rows.{cell}
-use Rattle.table.specs.Meaning.{meaning}
-use Rattle.table.proofs.Moved.{kept}
-use Rattle.table.proofs.Table.carry.Goals as goal
+use Rattle.table.specs.Rows.{ledger, cell}
+use Rattle.table.specs.Meaning.{grid_meaning}
+use Rattle.table.proofs.Moved.{kept_by, balance_within}
+use Rattle.table.proofs.grid.Grid.carry.Goals as goal
 
 pub returns : goal.returns
 returns c =
@@ -16,11 +15,10 @@ returns c =
     let s = c.args.from.asset in
     let n = c.args.amount in
     let f = cell b.rows in
-    kept (Move a d s n) b (record { accounts = b.accounts; assets = b.assets; rows = c.write-2.new.rows }) refl refl
-    (λ h ok. let x = h.few_accounts in let y = h.few_assets in let o = move_accepted (meaning b) a d s n ok in
-    let m = h.total_within s in
-    let la = term_within_sum b.accounts (λ x. cell b.rows x s) a o.from in
-    let ld = term_within_sum b.accounts (λ x. cell b.rows x s) d o.to in
+    kept_by (Move a d s n) (grid_meaning b) (ledger b.accounts b.assets c.write-2.new.rows) refl refl refl
+    (λ h ok. let x = h.few_accounts in let y = h.few_assets in let o = move_accepted (grid_meaning b) a d s n ok in
+    let la = balance_within b.accounts b.assets b.rows a s h o.from in
+    let ld = balance_within b.accounts b.assets b.rows d s h o.to in
     let v : c.saturating_sub.result ≡ cell b.rows a s - n = omega arith in
     let w : c.saturating_add.result ≡ cell b.rows d s + n = omega arith in
     c.write-2.ensures (omega arith) (omega arith)

@@ -2,7 +2,7 @@ use Rattle.std.proofs.Common.{◌∙◌, get_or, rules, tests}
 use Rattle.std.proofs.lemmas.Iterator.{YieldsList-from_slice, YieldsList-from_take, YieldsList-from_map}
 use Rattle.std.proofs.lemmas.Iterator.Consumers.{YieldsList-at, fold_from_yields_List}
 use Rattle.table.proofs.Cells.{saturating, saturated_of_rows}
-use Rattle.table.proofs.Table.total.Goals as goal
+use Rattle.table.proofs.grid.Grid.total.Goals as goal
 
 pub returns : goal.returns
 returns c =
